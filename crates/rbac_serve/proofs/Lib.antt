@@ -1,1 +1,6 @@
 pub mod StrangerLemmas
+pub mod PlaceLemmas
+pub mod Turning
+pub mod Order
+pub mod Feeding
+pub mod CallLemmas

@@ -2,16 +2,25 @@
 //! clock are the caller's.
 #![tactic(auto)]
 
+mod calls;
 mod control;
+mod guest;
+pub mod laws;
 mod line;
 mod network;
 mod outbox;
 mod peer;
+mod places;
+mod results;
 mod server;
+mod service;
 mod settings;
 mod stranger;
+mod worker;
 
 pub use network::{End, Heard, Judged, Loss, Network, Ready, Service, Stream, Taken};
 pub use outbox::{Outbox, Sent};
+pub use results::{Answered, Fed};
 pub use server::{Server, serve};
 pub use settings::Settings;
+pub use worker::Worker;

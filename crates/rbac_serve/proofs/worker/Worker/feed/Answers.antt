@@ -1,0 +1,67 @@
+use Rattle.std.proofs.Common.{◌≡◌, true, false, [], take, length, min, refl, inl, rules}
+use Rattle.std.specs.Prelude.{is_some}
+use Rattle.ads.specs.Ends.{client_view}
+use Rattle.proxy_core.specs.Events.{ads_bytes, ads_output}
+use Rattle.rbac_serve.specs.Tables.{sessions_of}
+use Rattle.rbac_serve.specs.Turns.{feeds, waits}
+use Rattle.rbac_serve.specs.Workers.{worker_view}
+use Rattle.rbac_serve.proofs.Feeding.{drop_works, feed_works, fits_same, none_waits, one_request, taken_few, taken_lacks, taken_some, with_stream}
+use Rattle.rbac_serve.proofs.CallLemmas.{same_fits, same_reached}
+use Rattle.rbac_serve.proofs.Turning.{works_more}
+use Rattle.rbac_serve.proofs.worker.Worker.feed.Goals as goal
+
+pub invariant_of-self : goal.invariant_of-self
+invariant_of-self c =
+    let old = c.args.self.now in
+    record {
+      fits = same_fits old.client c.feed.new.self old.guests.items c.in_err-fed.ensures.fault old.fits;
+      reached = same_reached old.client c.feed.new.self old.guests.items old.requests c.in_err-fed.ensures.fault old.reached;
+    }
+
+pub invariant_of-self-2 : goal.invariant_of-self-2
+invariant_of-self-2 c =
+    let old = c.args.self.now in
+    let client = client_view c.feed.new.self in
+    let none : old.requests ≡ [] = none_waits old.requests c.has_request.result c.has_request.ensures c.if-has_request.false in
+    let up : is_some (client_view old.client).stream ≡ true = search rules in
+    let (versions, fed) = c.in_ok-fed.ensures.found in
+    record {
+      fits = fits_same (client_view old.client) client (sessions_of old.guests.items) c.in_ok-fed.ensures.config old.fits;
+      reached = works_more (ads_bytes (take c.min-count.result c.args.bytes.now)) (ads_output c.in_ok-fed.fed.replies.items c.in_ok-fed.fed.broken)
+          (worker_view old) (with_stream (worker_view old) client c.of.result)
+          (feed_works (worker_view old) (take c.min-count.result c.args.bytes.now) none c.in_ok-fed.fed.replies.items c.of.result
+          c.in_ok-fed.fed.broken versions client up fed c.of.ensures) old.reached;
+    }
+
+pub returns-then-has_request-clause-found : goal.returns-then-has_request-clause-found
+returns-then-has_request-clause-found c =
+    waits (c.has_request.ensures.0 c.if-has_request.true) refl refl refl
+
+pub returns-then-not-is_up-clause-found : goal.returns-then-not-is_up-clause-found
+returns-then-not-is_up-clause-found c =
+    let old = worker_view c.args.self.now in
+    let none : old.requests ≡ [] = none_waits old.requests c.has_request.result c.has_request.ensures c.if-has_request.false in
+    let down : is_some old.core.client.stream ≡ false = search rules in
+    let few : c.min-count.result ≡ min c.lacks.result (length c.args.bytes.now) = search rules in
+    feeds [] none (λ some. taken_some c.args.bytes.now c.lacks.result c.min-count.result few c.lacks.ensures.some some)
+    (taken_few c.args.bytes.now c.lacks.result c.min-count.result few)
+    (drop_works old (take c.min-count.result c.args.bytes.now) none down) (inl refl)
+
+pub returns-clause-found : goal.returns-clause-found
+returns-clause-found c =
+    let old = worker_view c.args.self.now in
+    let client = client_view c.feed.new.self in
+    let count = c.min-count.result in
+    let none : old.requests ≡ [] = none_waits old.requests c.has_request.result c.has_request.ensures c.if-has_request.false in
+    let up : is_some old.core.client.stream ≡ true = search rules in
+    let few : count ≡ min c.lacks.result (length c.args.bytes.now) = search rules in
+    let (versions, fed) = c.in_ok-fed.ensures.found in
+    let one = c.lacks.ensures.one (take count c.args.bytes.now)
+    (taken_lacks c.args.bytes.now c.lacks.result count few) in
+    feeds c.in_ok-fed.fed.replies.items none
+    (λ some. taken_some c.args.bytes.now c.lacks.result count few c.lacks.ensures.some some)
+    (taken_few c.args.bytes.now c.lacks.result count few)
+    (feed_works old (take count c.args.bytes.now) none c.in_ok-fed.fed.replies.items c.of.result
+    c.in_ok-fed.fed.broken versions client up fed c.of.ensures)
+    (one_request old.core.client (take count c.args.bytes.now) c.in_ok-fed.fed.replies.items c.in_ok-fed.fed.broken
+    versions client one fed)

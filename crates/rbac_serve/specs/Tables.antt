@@ -1,0 +1,54 @@
+-- What a worker keeps (this project's own).
+use Rattle.std.specs.Prelude.{◌≡◌, ℕ, zero, suc, List, [], ◌∷◌, Option, None, map, set, get_or, IfSome}
+use Rattle.attributes.specs.Limits.{LimitsValue}
+use Rattle.ads.specs.Config.{ConfigValue}
+use Rattle.ads.specs.Ends.{client_view}
+use Rattle.ads.specs.declared.client.Client.{Client}
+use Rattle.http_front.specs.Front.{FrontValue}
+use Rattle.proxy_core.specs.Step.{ProxyValue, new_with, with_conn}
+use Rattle.rbac_serve.specs.declared.guest.Guest.{Guest}
+
+-- a worker: its core, the answers that wait for the connection in each place, and the requests that wait for the update
+-- stream
+pub record WorkerValue : Type 0 where
+  pub core : ProxyValue
+  pub answers : List (List ℕ)
+  pub requests : List ℕ
+
+-- nothing waits in so many places
+abbrev pub nothing_waits : ℕ → List (List ℕ)
+nothing_waits zero = []
+nothing_waits (suc n) = [] ∷ nothing_waits n
+
+-- a worker with so many places, to which nothing has happened
+abbrev pub new_worker : ℕ → ConfigValue → WorkerValue
+new_worker n c = record { core = new_with n c; answers = nothing_waits n; requests = [] }
+
+-- the answers that wait in a place
+abbrev pub waiting_at : ℕ → List (List ℕ) → List ℕ
+waiting_at k answers = get_or answers k []
+
+-- the worker once the connection in the place was closed
+abbrev pub closed_at : ℕ → WorkerValue → WorkerValue
+closed_at k w =
+    record { core = with_conn w.core k None; answers = set w.answers k []; requests = w.requests }
+
+-- the connections, by place
+abbrev pub sessions_of : List Guest → List (Option FrontValue)
+sessions_of guests = map (λ g. g.session) guests
+
+-- the answers that wait, by place
+abbrev pub waiting_of : List Guest → List (List ℕ)
+waiting_of guests = map (λ g. g.outbox) guests
+
+-- a worker of these parts
+abbrev pub state_of : Client → List Guest → List ℕ → WorkerValue
+state_of client guests requests = record {
+  core = record { client = client_view client; conns = sessions_of guests };
+  answers = waiting_of guests;
+  requests = requests;
+}
+
+-- the connection, if one is open, has these limits
+abbrev pub FitsFor : LimitsValue → Option FrontValue → Type 0
+FitsFor limits session = IfSome session (λ f. f.limits ≡ limits)

@@ -1,0 +1,192 @@
+//! The events of a worker, and the writes of what waits.
+
+ghost use Rattle.std.specs.Prelude.{◌≡◌, ◌≢◌, ◌<◌, ◌≤◌, ◌↔◌, ℕ, List, [], length, take, false, IfOk, OnOk, OnErr, IsTrue};
+ghost use Rattle.std.specs.Io.KnownBytes.{Appends};
+ghost use Rattle.attributes.specs.Conn.{conn_view};
+ghost use Rattle.ads.specs.Ends.{client_view};
+ghost use Rattle.proxy_core.specs.Events.{ads_bytes, ads_lost, ads_output, ads_up, http_closed, http_open, http_output, no_output};
+ghost use Rattle.rbac_serve.specs.Tables.{closed_at, new_worker, waiting_at};
+ghost use Rattle.rbac_serve.specs.Turns.{FeedsTurn, TellsTurn, TurnDoes, Works, answer_sent, request_sent};
+ghost use Rattle.rbac_serve.specs.Workers.{worker_view};
+
+use crate::guest::Guest;
+use crate::outbox::{Outbox, Sent};
+use crate::places::{heard, new_guest, new_guests, put_guest};
+use crate::results::{Answered, Fed};
+use crate::worker::Worker;
+use ads::{Client, Config};
+use attributes::Conn;
+use proxy_core::Session;
+use std::alloc::{AllocError, Global};
+use std::io::Write;
+
+impl Worker {
+    /// A worker with so many places, in which no connection is open. Its update stream is down.
+    pub fn new(alloc: Global, config: &Config, places: usize) -> Result<Worker, AllocError>
+        ensures { IfOk result (λ w. worker_view w ≡ new_worker places config.now) }
+    {
+        let client = Client::new(alloc, config)?;
+        Ok(Worker {
+            alloc,
+            client,
+            guests: new_guests(alloc, places)?,
+            requests: Outbox::new(alloc),
+        })
+    }
+
+    /// The client of the update stream.
+    pub fn client(&self) -> &Client
+        ensures { client_view result.now ≡ (worker_view self.now).core.client }
+    {
+        &self.client
+    }
+
+    /// The number of places.
+    pub fn places(&self) -> usize
+        ensures { result ≡ length (worker_view self.now).core.conns }
+    {
+        self.guests.len()
+    }
+
+    /// How many bytes wait for the connection in place `k`; none if there is no such place.
+    pub fn waiting(&self, k: usize) -> usize
+        ensures { result ≡ length (waiting_at k (worker_view self.now).answers) }
+    {
+        match self.guests.get(k) {
+            Some(guest) => guest.outbox.len(),
+            None => 0,
+        }
+    }
+
+    /// Whether a request waits for the update stream.
+    pub fn has_request(&self) -> bool
+        ensures { IsTrue result ↔ ((worker_view self.now).requests ≢ []) }
+    {
+        !self.requests.is_empty()
+    }
+
+    /// A connection opens in place `k` with these facts. Returns whether it is to be closed, since the facts are outside
+    /// the limits. If a connection is open in the place, it is closed first. If there is no such place, nothing is done.
+    /// After an error all is as before the call.
+    pub fn open(&mut self, k: usize, conn: &Conn) -> Result<bool, AllocError>
+        ensures found { IfOk result (λ closes. Works (worker_view self.old) (http_open k (conn_view conn.now))
+            (http_output [] closes) (worker_view self.new)) }
+        ensures fault { OnErr result (worker_view self.new ≡ worker_view self.old) }
+    {
+        if k >= self.guests.len() {
+            return Ok(false);
+        }
+        let session = Session::open(self.alloc, &self.client, conn)?;
+        let closes = session.is_none();
+        let guest = Guest {
+            session,
+            outbox: Outbox::new(self.alloc),
+        };
+        let _closed = put_guest(&mut self.guests, k, guest);
+        Ok(closes)
+    }
+
+    /// The connection in place `k` delivers bytes. The answers to the requests that they complete are put after those
+    /// that wait. After an error, which is out of memory, the connection is closed and nothing waits for it.
+    pub fn bytes(&mut self, k: usize, bytes: &[u8]) -> Result<Answered, AllocError>
+        ensures found { IfOk result (λ r. TellsTurn (worker_view self.old) k bytes.now r.told.items r.closes
+            (worker_view self.new)) }
+        ensures fault { OnErr result (worker_view self.new ≡ closed_at k (worker_view self.old)) }
+    {
+        if k >= self.guests.len() {
+            return Ok(Answered {
+                told: Vec::new(self.alloc),
+                closes: false,
+            });
+        }
+        let guest = put_guest(&mut self.guests, k, new_guest(self.alloc));
+        let (guest, answered) = heard(self.alloc, &self.client, guest, bytes)?;
+        let _free = put_guest(&mut self.guests, k, guest);
+        Ok(answered)
+    }
+
+    /// The connection in place `k` is closed, and what waits for it is dropped. It takes no memory.
+    pub fn close(&mut self, k: usize)
+        ensures { Works (worker_view self.old) (http_closed k) no_output (worker_view self.new) }
+    {
+        if k >= self.guests.len() {
+            return;
+        }
+        let _closed = put_guest(&mut self.guests, k, new_guest(self.alloc));
+    }
+
+    /// The update stream comes up. If one is up, it is lost first.
+    pub fn up(&mut self) -> Result<(), AllocError>
+        ensures found { OnOk result ((bytes : List ℕ)
+            × Works (worker_view self.old) ads_up (ads_output bytes false) (worker_view self.new)) }
+        ensures fault { OnErr result (worker_view self.new ≡ worker_view self.old) }
+    {
+        let bytes = self.client.connected()?;
+        self.requests = Outbox::of(bytes);
+        Ok(())
+    }
+
+    /// The update stream delivers bytes. Takes so many of them that at most one message is complete, and the answer to it
+    /// waits. While a request waits, none are taken. If no stream is up, bytes are dropped. The only error is out of
+    /// memory outside of an admission; after it all is as before the call.
+    pub fn feed(&mut self, bytes: &[u8]) -> Result<Fed, AllocError>
+        ensures found { IfOk result (λ fed. FeedsTurn (worker_view self.old) bytes.now fed.count fed.closes
+            (worker_view self.new)) }
+        ensures fault { OnErr result (worker_view self.new ≡ worker_view self.old) }
+    {
+        if self.has_request() {
+            return Ok(Fed {
+                count: 0,
+                closes: false,
+            });
+        }
+        let count = self.client.lacks().min(bytes.len());
+        if !self.client.is_up() {
+            return Ok(Fed {
+                count,
+                closes: false,
+            });
+        }
+        let fed = self.client.feed(&bytes[..count])?;
+        self.requests = Outbox::of(fed.replies);
+        Ok(Fed {
+            count,
+            closes: fed.broken,
+        })
+    }
+
+    /// The update stream is lost, and what waits for it is dropped. It takes no memory.
+    pub fn lost(&mut self)
+        ensures { Works (worker_view self.old) ads_lost no_output (worker_view self.new) }
+    {
+        self.client.lost();
+        self.requests = Outbox::new(self.alloc);
+    }
+
+    /// Writes once to the stream of the connection in place `k`, if answers wait for it.
+    pub fn send<W: Write>(&mut self, k: usize, stream: &mut W) -> Sent
+        ensures order { (sent : List ℕ) × Appends (W.contents stream.old) (W.contents stream.new) sent
+            × TurnDoes (worker_view self.old) (answer_sent k sent) (worker_view self.new) }
+        ensures all { (result ≡ Sent.All) ↔ (waiting_at k (worker_view self.new).answers ≡ []) }
+    {
+        if k >= self.guests.len() {
+            return Sent::All;
+        }
+        let Guest {
+            session,
+            mut outbox,
+        } = put_guest(&mut self.guests, k, new_guest(self.alloc));
+        let sent = outbox.send(stream);
+        let _free = put_guest(&mut self.guests, k, Guest { session, outbox });
+        sent
+    }
+
+    /// Writes once to the update stream, if a request waits for it.
+    pub fn send_request<W: Write>(&mut self, stream: &mut W) -> Sent
+        ensures order { (sent : List ℕ) × Appends (W.contents stream.old) (W.contents stream.new) sent
+            × TurnDoes (worker_view self.old) (request_sent sent) (worker_view self.new) }
+        ensures all { (result ≡ Sent.All) ↔ ((worker_view self.new).requests ≡ []) }
+    {
+        self.requests.send(stream)
+    }
+}

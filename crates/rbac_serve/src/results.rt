@@ -1,0 +1,21 @@
+//! The results of a worker's calls.
+
+use proxy_core::Told;
+
+/// The result of bytes of a connection.
+#[derive(Debug, Drop)]
+pub struct Answered {
+    /// What was asked and answered, in order.
+    pub told: Vec<Told>,
+    /// Whether the connection is to be closed once the answers were sent.
+    pub closes: bool,
+}
+
+/// The result of bytes of the update stream.
+#[derive(Clone, Copy, Debug)]
+pub struct Fed {
+    /// How many of the bytes were taken.
+    pub count: usize,
+    /// Whether the stream is to be closed once the answer was sent.
+    pub closes: bool,
+}
