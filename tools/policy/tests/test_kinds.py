@@ -56,7 +56,7 @@ ADMITTED = {
         ["envoy.filters.http.rbac"],
         ["14:9: note: RBACPerRoute without `rbac` turns the filter off for a route: it is left out"],
     ),
-    "grpc.json": (["authz-deny", "authz-allow"], ["14:3: note: audit_logging_options is left out"]),
+    "grpc.json": (["authz-deny", "authz-allow"], ["14:3: note: audit_logging_options is left out", '"authz_header": condition 3091 steps']),
     "kubernetes.yaml": (["envoy.filters.http.rbac"], ["1:1: note: this is a Service of v1, which holds no filter"]),
 }
 # The messages of each file that is not admitted, one for each mistake in it, in the order of lines.
