@@ -7,6 +7,8 @@ FILTER = b"type.googleapis.com/envoy.extensions.filters.http.rbac.v3.RBAC"
 ANY_ANY = bytes.fromhex("0a0f120d0a01701208 0a02180112021801".replace(" ", ""))
 TRUE_AND_TRUE = bytes.fromhex("0a2d122b0a01701226 0a02180112021801 221c221a1002321612045f26265f1a0610011a0210011a0610031a021001"
                               .replace(" ", ""))
+METHOD_IS_GET = bytes.fromhex("0a4512430a0170123e0a0218011202180122342232100332 2e12045f3d3d5f1a1b1002 2a170a0d100122090a07"
+                              "72657175657374 12066d6574686f64 1a0910041a0532034745 54".replace(" ", ""))
 NO_POLICY = bytes.fromhex("0a00")
 PLAIN = b"GET / HTTP/1.1\r\nHost: h\r\n\r\n"
 QUIET = "- open - open"
@@ -58,6 +60,18 @@ def answer(status, verdict, match, generation, body=b"", closes=False):
              b"x-rbac-generation: %d" % generation, b"content-length: %d" % len(body)]
     lines += [b"connection: close"] if closes else []
     return b"".join(line + b"\r\n" for line in [*lines, b""]) + body
+
+
+def without_body(text):
+    return text[:text.index(b"\r\n\r\n") + 4]
+
+
+def closing(text):
+    return text.replace(b"\r\n\r\n", b"\r\nconnection: close\r\n\r\n", 1)
+
+
+def told(text, generation):
+    return text.replace(b"generation: 0", b"generation: %d" % generation)
 
 
 def allowed(match, generation):
@@ -155,3 +169,23 @@ def inputs():
         config = {"node": "n", "cluster": "c", "filters": [{"name": text.decode()} for text in filters]}
         lines = "".join(json.dumps(event) + "\n" for event, _ in events)
         yield name, json.dumps(config).encode(), lines.encode(), "".join(f"{line}\n" for _, line in events).encode()
+
+
+def among_others(events, number):
+    """The events as a record of many connections has them: connection 0 has this number, and others come and go beside it. What
+    the others ask is answered nowhere."""
+    others = [opened(0)[0], http(PLAIN)[0], opened(number + 1)[0], http(PLAIN[:9], k=number + 1)[0]]
+    yield from others
+    for event, _ in events:
+        yield {**event, "k": number} if event.get("k") == 0 else event
+        yield http(PLAIN)[0]
+    yield from ({"event": "http_closed", "k": k} for k in (0, number + 1))
+
+
+def inputs_of_one(number):
+    """The same replays, each of one connection among others; and what the replay of that connection alone has to print."""
+    for name, filters, events in REPLAYS:
+        config = {"node": "n", "cluster": "c", "filters": [{"name": text.decode()} for text in filters]}
+        seen = [(event, line) for event, line in events if event.get("k", 0) == 0]
+        lines = "".join(json.dumps(event) + "\n" for event in among_others(seen, number))
+        yield name, json.dumps(config).encode(), lines.encode(), "".join(f"{line}\n" for _, line in seen).encode()

@@ -17,7 +17,7 @@ use Rattle.ads.specs.Views.{policies_view}
 use Rattle.ads.proofs.PlaceLemmas.{replaced_nothing}
 use Rattle.ads.specs.steps.Drafts.{IsAnswered, IsNoResponse}
 
--- a fault that is no want of memory
+-- a fault other than out of memory
 pub not_memory : (F : Refusal → Type 0) (e : Refusal) → MemoryOr F e → e ≢ Refusal.Memory → F e
 not_memory F e (inl memory) not = absurd (not memory)
 not_memory F e (inr fault) not = fault

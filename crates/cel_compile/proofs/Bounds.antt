@@ -15,11 +15,11 @@ use Rattle.cel_types.specs.Meaning.{turns_of}
 use Rattle.cel_types.specs.declared.typed.Variables.{Variables}
 use Rattle.cel_types.specs.TypedMeaning.{typed_answer}
 use Rattle.cel_types.specs.WellTyped.{IsWellTyped}
-use Rattle.cost_bound.specs.Costs.{charge_at, field_cost, map_cost, size_of, variable_sizes}
-use Rattle.cost_bound.proofs.Charged.{field_charged, list_charged, map_charged, overload_charged}
-use Rattle.cost_bound.proofs.Joins.{length_within, within_left, within_right}
-use Rattle.cost_bound.proofs.Within.{IfTurns, TurnsWithin, answer_within, turns_within}
-use Rattle.cost_bound.specs.Sizes.{AllWithin, Fits, Size, Within, join, most_of}
+use Rattle.cel_costs.specs.Costs.{charge_at, field_cost, map_cost, size_of, variable_sizes}
+use Rattle.cel_costs.proofs.Charged.{field_charged, list_charged, map_charged, overload_charged}
+use Rattle.cel_costs.proofs.Joins.{length_within, within_left, within_right}
+use Rattle.cel_costs.proofs.Within.{IfTurns, TurnsWithin, answer_within, turns_within}
+use Rattle.cel_costs.specs.Sizes.{AllWithin, Fits, Size, Within, join, most_of}
 
 -- of a request and its limits
 pub record Bounds (request : RequestValue) (limits : LimitsValue) : Type 0 where

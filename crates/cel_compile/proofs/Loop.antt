@@ -10,8 +10,8 @@ use Rattle.cel_ops.specs.Collections.{elements_of, pairs_of}
 use Rattle.cel_types.specs.Meaning.{turn, turns_of, one_each, fold}
 use Rattle.cel_types.specs.declared.typed.Variables.{Variables}
 use Rattle.cel_types.specs.declared.typed.Variables.TheVariants as variables
-use Rattle.cost_bound.specs.Sizes.{Size, join}
-use Rattle.cost_bound.specs.Costs.{grown, turns_cost}
+use Rattle.cel_costs.specs.Sizes.{Size, join}
+use Rattle.cel_costs.specs.Costs.{grown, turns_cost}
 use Rattle.stack_machine.specs.Instructions.{Instruction, Store, Jump, LoopNext, LoopNext2, LoopTest}
 use Rattle.stack_machine.specs.Locals.{with_local}
 use Rattle.stack_machine.specs.Machine as machine

@@ -204,7 +204,7 @@ refused_length e r (inl memory) = inl memory
 refused_length e r (inr (large, inl long)) = let same = extent_is e 0 0 in inr (large, inl (omega (arith, long, same)))
 refused_length e r (inr (large, inr many)) = inr (large, inr many)
 
--- so what `compile` refuses of it is want of memory
+-- so `compile` refuses it only when memory runs out
 pub room_alone : (parts : ExprParts) (c : CelChecked) (e : TypedTree) → IsExprOf parts c → IsElaborated c e
     → (r : Refusal) → MemoryOr (λ f. (f ≡ TooLarge) × ((65535 < extent e) ⊎ (HasFewLocals 0 e → ⊥))) r → r ≡ Memory
 room_alone parts c e read is r (inl memory) = memory

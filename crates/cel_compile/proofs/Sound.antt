@@ -22,9 +22,9 @@ use Rattle.cel_types.specs.declared.typed.Variables.{Variables}
 use Rattle.cel_types.specs.TypedMeaning.{typed_answer, typed_answers}
 use Rattle.cel_types.specs.WellTyped.{AreKeyed, AreWellTyped, IsWellTyped}
 use Rattle.cel_types.proofs.WellTypedAnswers.{all_have_types, answer_typed, answers_typed, walked_typed}
-use Rattle.cost_bound.specs.Costs.{charge_at, cost_of, costs_of, grown, map_cost, size_of, sizes_of, total, turns_cost, variable_sizes}
-use Rattle.cost_bound.specs.Sizes.{AllWithin, Size, Within, most_of}
-use Rattle.cost_bound.proofs.Within.{all_within_more}
+use Rattle.cel_costs.specs.Costs.{charge_at, cost_of, costs_of, grown, map_cost, size_of, sizes_of, total, turns_cost, variable_sizes}
+use Rattle.cel_costs.specs.Sizes.{AllWithin, Size, Within, most_of}
+use Rattle.cel_costs.proofs.Within.{all_within_more}
 use Rattle.stack_machine.specs.Instructions.{Instruction, Const, Attr, Load, Store, Field, HasField, LoopStart, MakeList, MakeMap}
 use Rattle.stack_machine.specs.Machine.{OpenLoop, gives, opened}
 use Rattle.cel_compile.specs.Codes.{count, instruction_of, list_instruction, map_instruction, pairs}

@@ -12,7 +12,7 @@ use Rattle.cel_types.specs.Typing.{IsOver}
 use Rattle.cel_types.specs.declared.typed.Variables.{Variables}
 use Rattle.cel_types.specs.declared.typed.Variables.TheVariants as variables
 use Rattle.cel_types.proofs.WellTypedAnswers.{TurnsHaveTypes, WalkHasTypes}
-use Rattle.cost_bound.specs.Sizes.{AllWithin, Size}
+use Rattle.cel_costs.specs.Sizes.{AllWithin, Size}
 
 -- ---- numbers of locals
 

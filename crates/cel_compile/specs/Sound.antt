@@ -8,8 +8,8 @@ use Rattle.cel_tree.specs.Checked.{CelChecked}
 use Rattle.cel_types.specs.Elaborated.{TypedTree, kind}
 use Rattle.cel_types.specs.Meaning.{eval}
 use Rattle.cel_types.specs.TypedMeaning.{typed_answer}
-use Rattle.cost_bound.specs.Costs.{cost_of, size_of}
-use Rattle.cost_bound.specs.Sizes.{Within}
+use Rattle.cel_costs.specs.Costs.{cost_of, size_of}
+use Rattle.cel_costs.specs.Sizes.{Within}
 use Rattle.stack_machine.specs.Instructions.{Instruction}
 use Rattle.stack_machine.specs.Machine.{Ends}
 

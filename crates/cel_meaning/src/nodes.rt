@@ -205,6 +205,7 @@ fn eval_loop<'t>(
         Err(_) => return Ok(Some(range)),
         Ok(value) => turns_of(around.alloc, variables_of(&parts.iter_var2), value)?,
     };
+    drop(range);
     let Some(turns) = turns else {
         return Ok(None);
     };
@@ -283,10 +284,13 @@ fn eval_turn<'t>(
         Some(condition) => condition,
     };
     match &condition.answer {
-        Ok(Value::Bool(true)) => match eval(around, &parts.loop_step, left)? {
-            Some(next) => Ok(Turned::Next(next)),
-            None => Ok(Turned::Nothing),
-        },
+        Ok(Value::Bool(true)) => {
+            drop(condition);
+            match eval(around, &parts.loop_step, left)? {
+                Some(next) => Ok(Turned::Next(next)),
+                None => Ok(Turned::Nothing),
+            }
+        }
         Ok(Value::Bool(false)) => Ok(Turned::Ends),
         Ok(_) => Ok(Turned::Nothing),
         Err(_) => Ok(Turned::Fails(condition)),

@@ -6,10 +6,10 @@ use Rattle.cel_ops.specs.declared.operation.Operation.{Operation}
 use Rattle.cel_ops.specs.declared.operation.Operation.TheVariants as operations
 use Rattle.cel_overload.specs.declared.overload.Overload.TheVariants as overloads
 use Rattle.cel_value.specs.Types.{ValueType}
-use Rattle.cost_bound.specs.Sizes.{Size, Flat}
-use Rattle.cost_bound.specs.Costs.{call_cost, call_size, charge_at, total}
+use Rattle.cel_costs.specs.Sizes.{Size, Flat}
+use Rattle.cel_costs.specs.Costs.{call_cost, call_size, charge_at, total}
 use Rattle.cost_bound.specs.steps.Measuring.{call_part}
-pub use Rattle.cost_bound.proofs.Charged.{charge_some}
+pub use Rattle.cel_costs.proofs.Charged.{charge_some}
 
 -- a charge is one and the rest of it
 one_more : (n t : ℕ) → 1 ≤ n → t + n ≡ t + (1 + (n - 1))

@@ -6,8 +6,8 @@ use Rattle.cel_types.specs.Elaborated.{kinds}
 use Rattle.cel_types.specs.steps.ExprViews.{exprs_view}
 use Rattle.cel_types.specs.declared.typed.TypedExpr.{TypedExpr}
 use Rattle.cel_value.specs.Types.{ValueType}
-use Rattle.cost_bound.specs.Costs.{charge_at}
-use Rattle.cost_bound.specs.Sizes.{Size}
+use Rattle.cel_costs.specs.Costs.{charge_at}
+use Rattle.cel_costs.specs.Sizes.{Size}
 
 -- there are as many types as expressions
 pub as_many_kinds : (es : List TypedExpr) → length (kinds (exprs_view es)) ≡ length es

@@ -2,8 +2,8 @@
 use Rattle.std.proofs.Common.{◌≡◌, nat_eq, true, false, ℕ, ◌<◌, List, [], ◌∷◌, length, refl, ap, suc, rules, Bor, arith}
 use Rattle.std.proofs.lemmas.Bool.Decides.{nat_tests}
 use Rattle.cel_types.specs.TypedMeaning.{local_at}
-use Rattle.cost_bound.specs.Costs.{known}
-use Rattle.cost_bound.specs.Sizes.{Size}
+use Rattle.cel_costs.specs.Costs.{known}
+use Rattle.cel_costs.specs.Sizes.{Size}
 use Rattle.cost_bound.specs.steps.Numbers.{capped}
 use Rattle.cost_bound.specs.steps.ScopeView.{Counted, locals_view, sizes_among}
 use Rattle.cost_bound.specs.steps.SizeView.{size_view}

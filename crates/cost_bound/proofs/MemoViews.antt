@@ -2,9 +2,12 @@
 use Rattle.std.proofs.Common.{◌≡◌, ℕ, zero, suc, ◌<◌, ◌≤◌, List, [], ◌∷◌, ◌++◌, length, get_or, refl, sym, ap, rules, arith}
 use Rattle.std.specs.declared.vec.Vec.{Vec}
 use Rattle.std.specs.declared.alloc.Global.{Global}
-use Rattle.cost_bound.specs.declared.memo.Memo.{Memo, Unknown, Known, Costly, Parts, the_lemmas}
+use Rattle.std.specs.declared.rc.Rc.{Rc}
+use Rattle.cost_bound.specs.declared.form.Form.{Form}
+use Rattle.cost_bound.specs.declared.memo.Memo.{Memo, Unknown, Known, Costly, Formed, Parts, the_lemmas}
 use Rattle.cost_bound.specs.declared.size.ValueSize.{ValueSize}
-use Rattle.cost_bound.specs.steps.Memos.{nothing_known, known_as, more_than, parts_known, memo_at, memo_view, memos_view}
+use Rattle.cost_bound.specs.steps.Memos.{nothing_known, known_as, more_than, formed, parts_known, memo_at, memo_view, memos_view}
+use Rattle.cost_bound.specs.steps.Formulas.{formula_view, shape_view}
 use Rattle.cost_bound.specs.steps.SizeView.{size_view}
 
 pub view_unknown : memo_view Unknown ≡ nothing_known
@@ -15,6 +18,10 @@ view_known s n = search (rules, the_lemmas)
 
 pub view_costly : (n : ℕ) → memo_view (Costly n) ≡ more_than n
 view_costly n = search (rules, the_lemmas)
+
+pub view_formed : (f : Rc Form Global) → memo_view (Formed f)
+    ≡ formed (formula_view f.value.formula.value) (shape_view f.value.shape)
+view_formed f = search (rules, the_lemmas)
 
 pub view_parts : (ms : Vec Memo Global) → memo_view (Parts ms) ≡ parts_known (memos_view ms.items)
 view_parts ms = search (rules, the_lemmas)

@@ -8,8 +8,8 @@ use Rattle.cel_types.specs.View.{expr_view}
 use Rattle.cel_types.specs.steps.ExprViews.{exprs_view}
 use Rattle.cel_types.specs.declared.typed.TypedExpr.{TypedExpr}
 use Rattle.cel_value.specs.Types.{ValueType}
-use Rattle.cost_bound.specs.Costs.{call_cost, call_size, cost_of, costs_of, join_all, list_size, size_of, sizes_of, total}
-use Rattle.cost_bound.specs.Sizes.{Size, Flat, Text, Many, Table, join}
+use Rattle.cel_costs.specs.Costs.{call_cost, call_size, cost_of, costs_of, join_all, list_size, size_of, sizes_of, total}
+use Rattle.cel_costs.specs.Sizes.{Size, Flat, Text, Many, Table, join}
 use Rattle.cost_bound.specs.steps.Measuring.{EachAlike, MeasureAlike}
 use Rattle.cost_bound.proofs.Steps.{as_many, cost_count, costs_from, sizes_from}
 
@@ -47,10 +47,10 @@ max_same n = omega arith
 max_again : (n m : ℕ) → max n (max n m) ≡ max n m
 max_again n m = omega arith
 
-many_of : (n m : ℕ) (e f : Size) → n ≡ m → e ≡ f → Many n e ≡ Many m f
+pub many_of : (n m : ℕ) (e f : Size) → n ≡ m → e ≡ f → Many n e ≡ Many m f
 many_of n m e f same items = rw (same, items) refl
 
-table_of : (n m : ℕ) (k v j w : Size) → n ≡ m → k ≡ j → v ≡ w → Table n k v ≡ Table m j w
+pub table_of : (n m : ℕ) (k v j w : Size) → n ≡ m → k ≡ j → v ≡ w → Table n k v ≡ Table m j w
 table_of n m k v j w same keys values = rw (same, keys, values) refl
 
 -- a size joined with itself

@@ -10,10 +10,11 @@ use Rattle.cel_types.specs.steps.ExprViews.{exprs_view}
 use Rattle.cel_types.specs.declared.typed.TypedExpr.{TypedExpr}
 use Rattle.cel_types.specs.declared.typed.Variables.{Variables}
 use Rattle.cel_value.specs.Types.{ValueType}
-use Rattle.cost_bound.specs.Costs.{cost_of, size_of}
-use Rattle.cost_bound.specs.Sizes.{Size}
-use Rattle.cost_bound.specs.steps.Memos.{MemoTree, nothing_known, known_as, more_than, MemoTrees, memo_at, part_at, Says, MemoHolds, MemoHoldsEach, MemoHoldsInside, InTurns, IsSettled, IsTold, NamesOnly}
+use Rattle.cel_costs.specs.Costs.{cost_of, size_of}
+use Rattle.cel_costs.specs.Sizes.{Size}
+use Rattle.cost_bound.specs.steps.Memos.{MemoTree, nothing_known, known_as, more_than, formed, parts_known, MemoTrees, memo_at, part_at, Says, HoldsForAll, MemoHolds, MemoHoldsEach, MemoHoldsInside, InTurns, IsSettled, IsTold, NamesOnly}
 use Rattle.cost_bound.specs.steps.Memos.{Remembers}
+use Rattle.cost_bound.specs.steps.Formulas.{FormulaTree, IsForm, ShapeTree}
 use Rattle.cost_bound.specs.steps.Numbers.{capped}
 use Rattle.cost_bound.specs.steps.ScopeView.{Counted, sizes_among}
 use Rattle.cost_bound.specs.declared.steady.Around.{Around}
@@ -59,6 +60,23 @@ holds_known m s c e l ss is size cost =
 pub holds_more : (m : MemoTree) (n : ℕ) (e : TypedTree) (l : LimitsValue) (ss : List Size)
     → m ≡ more_than n → n < cost_of e l ss → MemoHolds m e l ss
 holds_more m n e l ss is more = rw is (more, alone_inside (more_than n) (λ i. refl) e l ss)
+
+pub holds_formed : (m : MemoTree) (p : FormulaTree) (sh : ShapeTree) (e : TypedTree) (l : LimitsValue)
+    → m ≡ formed p sh → IsForm p sh e l → HoldsForAll m e l
+holds_formed m p sh e l is form = λ ss. rw is (form, alone_inside (formed p sh) (λ i. refl) e l ss)
+
+-- what holds of a loop does not depend on its type
+says_of_kind : (m : MemoTree) (t u : ValueType) (p : TypedParts) (l : LimitsValue) (ss : List Size)
+    → Says m (loop_of t p) l ss → Says m (loop_of u p) l ss
+says_of_kind nothing_known t u p l ss h = tt
+says_of_kind (known_as s c) t u p l ss h = h
+says_of_kind (more_than n) t u p l ss h = h
+says_of_kind (formed q sh) t u p l ss h = h
+says_of_kind (parts_known ms) t u p l ss h = tt
+
+pub holds_of_kind : (m : MemoTree) (t u : ValueType) (p : TypedParts) (l : LimitsValue) (ss : List Size)
+    → MemoHolds m (loop_of t p) l ss → MemoHolds m (loop_of u p) l ss
+holds_of_kind m t u p l ss h = (says_of_kind m t u p l ss h.0, h.1)
 
 -- what holds of expressions one after the other holds of that at a place
 part_from : (m : MemoTree) (l : LimitsValue) (ss : List Size) (n : ℕ) (es : List TypedExpr) (i : ℕ)
@@ -180,7 +198,8 @@ remembered_turned m e l around k ss others inside more each any t is many h coun
 pub loop_remembered : (p : TypedParts) (t : ValueType) (l : LimitsValue) (around : Around) (k : ℕ)
     (ss others outer inner more : List Size) (any : Size) (m r i c s e : MemoTree)
     (one two three four five : MemoTrees)
-    → ((j : ℕ) → part_at j m ≡ memo_at j five) → ((size : Size) (cost : ℕ) → Says m size cost)
+    → ((j : ℕ) → part_at j m ≡ memo_at j five)
+    → ((d : TypedTree) (k : LimitsValue) (sizes : List Size) → Says m d k sizes)
     → memo_at 0 one ≡ r
     → ((j : ℕ) → j < 1 → memo_at j two ≡ memo_at j one) → memo_at 1 two ≡ i
     → ((j : ℕ) → j < 2 → memo_at j three ≡ memo_at j two) → memo_at 2 three ≡ c
@@ -200,7 +219,7 @@ loop_remembered p t l around k ss others outer inner more any m r i c s e one tw
     let at3 : part_at 3 m ≡ s = at 3 ∙ b4 3 (omega arith) ∙ a3 in
     let at4 : part_at 4 m ≡ e = at 4 ∙ a4 in
     let isInner' : inner ≡ more ++ any ∷ ss = isInner ∙ ap (λ x. more ++ x) isOuter in (
-      silent _ _,
+      silent _ _ _,
       (
         rw at0 (hr k others counted turns),
         rw at1 (hi k others counted turns),

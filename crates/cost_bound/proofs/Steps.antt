@@ -12,8 +12,8 @@ use Rattle.std.proofs.lemmas.Result.{IfErr-weaker}
 use Rattle.proto_wire.proofs.Exits.{exit_memory_or, memory_or_weaker}
 use Rattle.proto_wire.specs.Refusal.{MemoryOr}
 use Rattle.proto_wire.specs.declared.refusal.Refusal.{Refusal}
-use Rattle.cost_bound.specs.Costs.{cost_of, costs_of, field_cost, grown, size_of, sizes_of, total, turns_cost, variable_sizes}
-use Rattle.cost_bound.specs.Sizes.{Size, most_of}
+use Rattle.cel_costs.specs.Costs.{cost_of, costs_of, field_cost, grown, size_of, sizes_of, total, turns_cost, variable_sizes}
+use Rattle.cel_costs.specs.Sizes.{Size, most_of}
 use Rattle.cost_bound.specs.steps.Measuring.{CostsMore, next_size, turn_cost}
 use Rattle.cost_bound.proofs.Capped.{one_less, paid}
 

@@ -1,10 +1,10 @@
 -- Turns, one after the other: once what is gathered grows no more, the others cost the same each.
 use Rattle.std.proofs.Common.{◌≡◌, ℕ, suc, zero, ◌+◌, ◌*◌, ◌-◌, ◌<◌, ◌/◌, ◌%◌, List, [], ◌∷◌, length, refl, sym, ap, ◌∙◌, arith, suc-mul, zero-mul}
-use Rattle.cost_bound.specs.Sizes.{Size, join}
+use Rattle.cel_costs.specs.Sizes.{Size, join}
 use Rattle.cel_ops.specs.declared.operation.Operation.TheVariants as operations
 use Rattle.cel_overload.specs.declared.overload.Overload.TheVariants as overloads
 use Rattle.cel_value.specs.Types.{ValueType}
-use Rattle.cost_bound.specs.Costs.{charge_at, grown, turns_cost, keys_of, values_of}
+use Rattle.cel_costs.specs.Costs.{charge_at, grown, turns_cost, keys_of, values_of}
 
 less : (n : ℕ) → n ≡ suc n - 1
 less n = omega arith

@@ -1,4 +1,1 @@
-pub mod Sizes
-pub mod Costs
-pub mod Reaches
 pub mod steps

@@ -4,4 +4,5 @@ pub mod Numbers
 pub mod SizeView
 pub mod ScopeView
 pub mod Measuring
+pub mod Formulas
 pub mod Memos

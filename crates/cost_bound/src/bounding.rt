@@ -10,12 +10,13 @@ ghost use Rattle.cel_types.specs.TypedMeaning.{typed_answer};
 ghost use Rattle.cel_types.specs.View.{typed_view};
 ghost use Rattle.cel_types.specs.WellTyped.{IsWellTyped};
 ghost use Rattle.cel_value.specs.Values.{CelAnswer};
-ghost use Rattle.cost_bound.specs.Costs.{cost_of, size_of};
-ghost use Rattle.cost_bound.specs.Reaches.{Reaches};
-ghost use Rattle.cost_bound.specs.Sizes.{AllWithin, Size, Within};
+ghost use Rattle.cel_costs.specs.Costs.{cost_of, size_of};
+ghost use Rattle.cel_costs.specs.Reaches.{Reaches};
+ghost use Rattle.cel_costs.specs.Sizes.{AllWithin, Size, Within};
 
 use crate::measure::measure;
 use crate::scope::Scope;
+use crate::survey::first_memo;
 use attributes::Limits;
 use cel_types::Typed;
 use proto_wire::Refusal;
@@ -42,6 +43,7 @@ pub fn bound(alloc: Global, typed: &Typed<'_>, limits: &Limits, budget: u64) -> 
         (e ≡ TooCostly) × (budget < cost_of (typed_view typed.now) limits.now []))) }
 {
     let scope = Scope::Empty;
-    let measured = measure(alloc, &typed.root, limits, &scope, None, budget)?;
+    let memo = first_memo(alloc, &typed.root, limits)?;
+    let measured = measure(alloc, &typed.root, limits, &scope, Some(&memo), budget)?;
     Ok(budget - measured.left)
 }

@@ -8,7 +8,7 @@ ghost use Rattle.cel_types.specs.View.{expr_view};
 ghost use Rattle.cel_types.specs.steps.ExprViews.{exprs_view};
 ghost use Rattle.cel_value.specs.Texts.{text_view};
 ghost use Rattle.cel_value.specs.Types.{ValueType, type_view};
-ghost use Rattle.cost_bound.specs.Costs.{charge_at, conversion_cost, counted_cost, field_cost, map_cost};
+ghost use Rattle.cel_costs.specs.Costs.{charge_at, conversion_cost, counted_cost, field_cost, map_cost};
 ghost use Rattle.cost_bound.specs.steps.Measuring.{CostsMore, call_part};
 ghost use Rattle.cost_bound.specs.steps.Numbers.{capped};
 ghost use Rattle.cost_bound.specs.steps.SizeView.{size_view, sizes_view};

@@ -6,8 +6,8 @@ ghost use Rattle.attributes.specs.Limits.{limit_of};
 ghost use Rattle.attributes.specs.declared.attribute.AttrId.TheVariants.{RequestHeaders};
 ghost use Rattle.cel_tree.specs.View.{constant_view};
 ghost use Rattle.cel_value.specs.Types.{type_view};
-ghost use Rattle.cost_bound.specs.Costs.{attribute_size, constant_size};
-ghost use Rattle.cost_bound.specs.Sizes.{Text, least, least_key};
+ghost use Rattle.cel_costs.specs.Costs.{attribute_size, constant_size};
+ghost use Rattle.cel_costs.specs.Sizes.{Text, least, least_key};
 ghost use Rattle.cost_bound.specs.steps.SizeView.{size_view};
 
 use crate::size::{ValueSize, many, table};

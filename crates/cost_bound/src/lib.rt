@@ -2,19 +2,23 @@
 #![tactic(auto)]
 
 mod bounding;
+mod call_forms;
 mod charges;
+mod form;
 mod known;
 mod likeness;
+mod loops;
 mod made;
 mod measure;
 mod measured;
 mod memo;
+mod numbers;
 mod remembered;
 mod scope;
+mod shape;
 mod size;
 mod steady;
+mod survey;
 mod variables;
 
 pub use bounding::bound;
-
-pub mod laws;

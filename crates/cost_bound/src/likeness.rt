@@ -7,8 +7,8 @@ ghost use Rattle.cel_types.specs.steps.ExprViews.{exprs_view};
 ghost use Rattle.cel_types.specs.declared.typed.TypedExpr.{TypedExpr};
 ghost use Rattle.cel_value.specs.Types.{type_view};
 ghost use Rattle.cel_tree.specs.View.{constant_view};
-ghost use Rattle.cost_bound.specs.Costs.{call_cost, constant_size, counted_cost};
-ghost use Rattle.cost_bound.specs.Sizes.{Size, most_of};
+ghost use Rattle.cel_costs.specs.Costs.{call_cost, constant_size, counted_cost};
+ghost use Rattle.cel_costs.specs.Sizes.{Size, most_of};
 ghost use Rattle.cost_bound.specs.steps.Measuring.{EachAlike, MeasureAlike};
 
 use crate::known::constant_size;

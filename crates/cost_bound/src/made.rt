@@ -3,8 +3,8 @@
 ghost use Rattle.std.specs.Prelude.{◌≡◌, ◌<◌, ◌+◌, ◌-◌, ◌^◌, List, [], ◌∷◌, IfOk, length};
 ghost use Rattle.cel_overload.specs.declared.overload.Overload.TheVariants.{Operate};
 ghost use Rattle.cel_value.specs.Types.{ValueType, type_view};
-ghost use Rattle.cost_bound.specs.Costs.{call_size, charge_at, concat_size, conversion_size, join_all, keys_of, list_size, map_cost, map_size, masses, values_of};
-ghost use Rattle.cost_bound.specs.Sizes.{Size, most_of};
+ghost use Rattle.cel_costs.specs.Costs.{call_size, charge_at, concat_size, conversion_size, join_all, keys_of, list_size, map_cost, map_size, masses, values_of};
+ghost use Rattle.cel_costs.specs.Sizes.{Size, most_of};
 ghost use Rattle.cost_bound.specs.steps.Numbers.{capped};
 ghost use Rattle.cost_bound.specs.steps.SizeView.{size_view, sizes_view};
 

@@ -1,16 +1,17 @@
 //! Measures expressions: the size of the answer, and the cost.
 
-ghost use Rattle.std.specs.Prelude.{◌≡◌, ◌+◌, ◌*◌, ◌↔◌, ◌∷◌, ◌++◌, ℕ, IfErr, IfOk, IsTrue, length};
+ghost use Rattle.std.specs.Prelude.{◌≡◌, ◌+◌, ◌*◌, ◌↔◌, ◌∷◌, ◌++◌, ℕ, List, IfErr, IfOk, IsTrue, length};
+ghost use Rattle.attributes.specs.Limits.{LimitsValue};
 ghost use Rattle.proto_wire.specs.Refusal.{MemoryOr};
 ghost use Rattle.proto_wire.specs.declared.refusal.Refusal.TheVariants.{Memory};
 ghost use Rattle.cel_overload.specs.declared.overload.Overload.TheVariants.{Conditional};
-ghost use Rattle.cel_types.specs.Elaborated.{kinds, typed_loop};
+ghost use Rattle.cel_types.specs.Elaborated.{TypedTree, kinds, typed_loop};
 ghost use Rattle.cel_types.specs.View.{expr_view, loop_of};
 ghost use Rattle.cel_types.specs.steps.ExprViews.{exprs_view, parts_view};
 ghost use Rattle.cel_value.specs.Texts.{text_view};
 ghost use Rattle.cel_value.specs.Types.{ValueType};
-ghost use Rattle.cost_bound.specs.Costs.{call_cost, call_size, cost_of, costs_of, field_cost, grown, join_all, size_of, sizes_of, total, turns_cost};
-ghost use Rattle.cost_bound.specs.Sizes.{Size, join};
+ghost use Rattle.cel_costs.specs.Costs.{call_cost, call_size, cost_of, costs_of, field_cost, grown, join_all, size_of, sizes_of, total, turns_cost};
+ghost use Rattle.cel_costs.specs.Sizes.{Size, join};
 ghost use Rattle.cost_bound.specs.steps.Measuring.{CostsMore, call_part, next_size, turn_cost};
 ghost use Rattle.cost_bound.specs.steps.Memos.{MemoHolds, MemoHoldsEach, Remembers, RemembersEach, Says, known_view, memo_view};
 ghost use Rattle.cost_bound.specs.steps.ScopeView.{IsCounted, locals_view, scope_view};
@@ -26,6 +27,7 @@ use crate::remembered::{Remembered, budget_at, budget_for, keep_measured};
 use crate::scope::Scope;
 use crate::size::{ValueSize, join, same};
 use crate::steady::{Around, has_items, is_steady};
+use crate::survey::kept;
 use crate::variables::VariableSizes;
 use attributes::Limits;
 use cel_overload::Overload;
@@ -59,7 +61,7 @@ pub(crate) fn measure(
     ensures fault { IfErr result (MemoryOr
         (CostsMore (cost_of (expr_view expr.now) limits.now (scope_view scope.now)) left)) }
 {
-    if let Some(known) = recall(memo, left)? {
+    if let Some(known) = recall(alloc, memo, scope, left)? {
         return Ok(known);
     }
     match expr {
@@ -296,8 +298,8 @@ fn measure_call(
     measure_operands(alloc, operands, limits, scope, memo, overload, left)
 }
 
-// Whether the call is a conditional, which evaluates only one of its last two operands.
-fn is_choice(overload: Overload, operands: &[TypedExpr<'_>]) -> bool
+/// Whether the call is a conditional, which evaluates only one of its last two operands.
+pub(crate) fn is_choice(overload: Overload, operands: &[TypedExpr<'_>]) -> bool
     ensures { IsTrue result ↔ ((overload ≡ Conditional) × (length operands.now ≡ 3)) }
 {
     overload == Overload::Conditional && operands.len() == 3
@@ -617,6 +619,9 @@ fn remember(
             left,
         });
     }
+    if let Some(known) = kept(memo)? {
+        return Ok(Remembered { memo: known, left });
+    }
     match expr {
         TypedExpr::Constant { .. } => Ok(Remembered {
             memo: Memo::Unknown,
@@ -683,7 +688,8 @@ fn remember_each(
 ) -> Result<Remembered, Refusal>
     requires counted { IsCounted (locals_view scope.now) }
     requires holds { MemoHoldsEach (known_view memo) 0 (exprs_view exprs.now) limits.now (scope_view scope.now) }
-    ensures found { IfOk result (λ r. ((size : Size) (cost : ℕ) → Says (memo_view r.memo) size cost)
+    ensures found { IfOk result (λ r. ((e : TypedTree) (l : LimitsValue) (sizes : List Size)
+        → Says (memo_view r.memo) e l sizes)
         × RemembersEach (memo_view r.memo) (exprs_view exprs.now) limits.now around (scope_view scope.now)) }
     ensures fault { IfErr result (λ e. e ≡ Memory) }
 {

@@ -1,16 +1,22 @@
 //! The results of measuring expressions, and their use as memos.
 
-ghost use Rattle.std.specs.Prelude.{◌≡◌, ◌+◌, ℕ, IfErr, IfOk, IfSome};
+ghost use Rattle.std.specs.Prelude.{◌≡◌, ◌+◌, IfErr, IfOk, IfSome};
 ghost use Rattle.proto_wire.specs.Refusal.{MemoryOr};
-ghost use Rattle.cost_bound.specs.Sizes.{Size};
+ghost use Rattle.attributes.specs.Limits.{LimitsValue};
+ghost use Rattle.cel_types.specs.Elaborated.{TypedTree};
+ghost use Rattle.cel_costs.specs.Costs.{cost_of, size_of};
 ghost use Rattle.cost_bound.specs.steps.Measuring.{CostsMore};
 ghost use Rattle.cost_bound.specs.steps.Memos.{Says, known_view, memo_view};
+ghost use Rattle.cost_bound.specs.steps.ScopeView.{IsCounted, locals_view, scope_view};
 ghost use Rattle.cost_bound.specs.steps.SizeView.{size_view};
 
 use crate::charges::{pay, pay_turns};
+use crate::form::{apply, is_leaf};
 use crate::memo::Memo;
+use crate::scope::Scope;
 use crate::size::ValueSize;
 use proto_wire::Refusal;
+use std::alloc::Global;
 
 /// The size of an expression's answer, and the budget left after its cost.
 #[derive(Drop)]
@@ -30,25 +36,41 @@ pub(crate) struct MeasuredItems {
 
 /// The result of an expression, if its memo has the size and the cost; pays the cost. Otherwise
 /// nothing. `TooCostly` if the memo shows that the cost exceeds the budget.
-pub(crate) fn recall(memo: Option<&Memo>, left: u64) -> Result<Option<Measured>, Refusal>
-    ensures found { IfOk result (λ o. IfSome o (λ m. (size : Size) (cost : ℕ)
-        → Says (known_view memo.entry) size cost
-        → (size_view m.size ≡ size) × (left ≡ cost + m.left))) }
-    ensures fault { IfErr result (MemoryOr (λ e. (size : Size) (cost : ℕ)
-        → Says (known_view memo.entry) size cost → CostsMore cost left e)) }
+pub(crate) fn recall(
+    alloc: Global,
+    memo: Option<&Memo>,
+    scope: &Scope<'_>,
+    left: u64,
+) -> Result<Option<Measured>, Refusal>
+    requires { IsCounted (locals_view scope.now) }
+    ensures found { IfOk result (λ o. IfSome o (λ m. (e : TypedTree) (l : LimitsValue)
+        → Says (known_view memo.entry) e l (scope_view scope.now)
+        → (size_view m.size ≡ size_of e l (scope_view scope.now))
+        × (left ≡ cost_of e l (scope_view scope.now) + m.left))) }
+    ensures fault { IfErr result (MemoryOr (λ f. (e : TypedTree) (l : LimitsValue)
+        → Says (known_view memo.entry) e l (scope_view scope.now)
+        → CostsMore (cost_of e l (scope_view scope.now)) left f)) }
 {
     match memo {
         None => Ok(None),
-        Some(known) => recall_known(known, left),
+        Some(known) => recall_known(alloc, known, scope, left),
     }
 }
 
-fn recall_known(memo: &Memo, left: u64) -> Result<Option<Measured>, Refusal>
-    ensures found { IfOk result (λ o. IfSome o (λ m. (size : Size) (cost : ℕ)
-        → Says (memo_view memo.now) size cost
-        → (size_view m.size ≡ size) × (left ≡ cost + m.left))) }
-    ensures fault { IfErr result (MemoryOr (λ e. (size : Size) (cost : ℕ)
-        → Says (memo_view memo.now) size cost → CostsMore cost left e)) }
+fn recall_known(
+    alloc: Global,
+    memo: &Memo,
+    scope: &Scope<'_>,
+    left: u64,
+) -> Result<Option<Measured>, Refusal>
+    requires { IsCounted (locals_view scope.now) }
+    ensures found { IfOk result (λ o. IfSome o (λ m. (e : TypedTree) (l : LimitsValue)
+        → Says (memo_view memo.now) e l (scope_view scope.now)
+        → (size_view m.size ≡ size_of e l (scope_view scope.now))
+        × (left ≡ cost_of e l (scope_view scope.now) + m.left))) }
+    ensures fault { IfErr result (MemoryOr (λ f. (e : TypedTree) (l : LimitsValue)
+        → Says (memo_view memo.now) e l (scope_view scope.now)
+        → CostsMore (cost_of e l (scope_view scope.now)) left f)) }
 {
     match memo {
         Memo::Unknown => Ok(None),
@@ -62,6 +84,19 @@ fn recall_known(memo: &Memo, left: u64) -> Result<Option<Measured>, Refusal>
         Memo::Costly { than } => {
             pay(left, *than)?;
             Ok(None)
+        }
+        Memo::Formed(form) => {
+            if is_leaf(form) {
+                return Ok(None);
+            }
+            let Some(given) = apply(alloc, form, scope)? else {
+                return Ok(None);
+            };
+            let left = pay_turns(left, 1, given.cost)?;
+            Ok(Some(Measured {
+                size: given.size,
+                left,
+            }))
         }
         Memo::Parts(_) => Ok(None),
     }

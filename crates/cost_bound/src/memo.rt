@@ -1,11 +1,15 @@
 //! Memos: what is known of an expression and of its parts before it is measured.
 
-ghost use Rattle.std.specs.Prelude.{◌≡◌, ◌<◌, ◌≤◌, ◌+◌, ℕ, IfOk, IsTrue, length};
-ghost use Rattle.cost_bound.specs.Sizes.{Size};
+ghost use Rattle.std.specs.Prelude.{◌≡◌, ◌<◌, ◌≤◌, ◌+◌, ℕ, List, IfOk, IsTrue, length};
+ghost use Rattle.attributes.specs.Limits.{LimitsValue};
+ghost use Rattle.cel_types.specs.Elaborated.{TypedTree};
+ghost use Rattle.cel_costs.specs.Sizes.{Size};
 ghost use Rattle.cost_bound.specs.steps.Memos.{Says, known_view, memo_at, memo_view, memos_view, nothing_known, part_at};
 
+use crate::form::Form;
 use crate::size::ValueSize;
 use std::alloc::AllocError;
+use std::rc::Rc;
 
 /// A memo of an expression. Measuring a loop remembers in it what no turn changes.
 #[derive(Drop)]
@@ -16,6 +20,8 @@ pub(crate) enum Memo {
     Known { size: ValueSize, cost: u64 },
     /// The cost exceeds this number.
     Costly { than: u64 },
+    /// The size and the cost for all sizes of the locals.
+    Formed(Rc<Form>),
     /// The memos of its parts, each at its place. Nothing is known of parts after the last one.
     Parts(Vec<Memo>),
 }
@@ -30,13 +36,15 @@ pub(crate) fn part<'s>(memo: Option<&'s Memo>, place: usize) -> Option<&'s Memo>
     }
 }
 
-fn part_of(memo: &Memo, place: usize) -> Option<&Memo>
+/// The same of a memo.
+pub(crate) fn part_of(memo: &Memo, place: usize) -> Option<&Memo>
     ensures { known_view result ≡ part_at place (memo_view memo.now) }
 {
     match memo {
         Memo::Unknown => None,
         Memo::Known { .. } => None,
         Memo::Costly { .. } => None,
+        Memo::Formed(_) => None,
         Memo::Parts(parts) => {
             if place < parts.len() {
                 return Some(&parts[place]);
@@ -50,7 +58,8 @@ impl Memo {
     /// The memo of an expression, made of its parts' memos.
     pub(crate) fn of_parts(parts: Vec<Memo>) -> Memo
         ensures at { (i : ℕ) → part_at i (memo_view result) ≡ memo_at i (memos_view parts.items) }
-        ensures silent { (size : Size) (cost : ℕ) → Says (memo_view result) size cost }
+        ensures silent { (e : TypedTree) (l : LimitsValue) (sizes : List Size)
+            → Says (memo_view result) e l sizes }
     {
         if parts.is_empty() {
             return Memo::Unknown;

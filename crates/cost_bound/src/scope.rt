@@ -2,7 +2,7 @@
 
 ghost use Rattle.std.specs.Prelude.{◌≡◌, ◌∷◌, IfOk, length};
 ghost use Rattle.cel_types.specs.TypedMeaning.{local_at};
-ghost use Rattle.cost_bound.specs.Costs.{known};
+ghost use Rattle.cel_costs.specs.Costs.{known};
 ghost use Rattle.cost_bound.specs.steps.Numbers.{capped};
 ghost use Rattle.cost_bound.specs.steps.ScopeView.{IsCounted, locals_view, scope_view};
 ghost use Rattle.cost_bound.specs.steps.SizeView.{size_view};

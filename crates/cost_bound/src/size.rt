@@ -1,10 +1,10 @@
 //! Sizes: upper bounds of an expression's answer.
 
-ghost use Rattle.std.specs.Prelude.{◌≡◌, ◌+◌, ◌*◌, ◌↔◌, ℕ, IfOk, IsTrue};
-ghost use Rattle.cost_bound.specs.Costs.{element_size, key_size, resized, value_size};
-ghost use Rattle.cost_bound.specs.Sizes.{Flat, Many, Size, Table, Text, join, mass_of, most_of};
+ghost use Rattle.std.specs.Prelude.{◌≡◌, ◌+◌, ◌*◌, ◌↔◌, ℕ, IfOk, IfSome, IsTrue};
+ghost use Rattle.cel_costs.specs.Costs.{element_size, key_size, resized, value_size};
+ghost use Rattle.cel_costs.specs.Sizes.{Flat, Many, Size, Table, Text, join, mass_of, most_of};
 ghost use Rattle.cost_bound.specs.steps.Numbers.{capped};
-ghost use Rattle.cost_bound.specs.steps.SizeView.{size_view};
+ghost use Rattle.cost_bound.specs.steps.SizeView.{IsWider, size_view};
 
 use std::alloc::{AllocError, Global};
 use std::rc::Rc;
@@ -142,7 +142,11 @@ pub(crate) fn join(
     if covers(right, left) {
         return right.copy();
     }
-    join_parts(alloc, left, right)
+    match wider_of(alloc, left, right)? {
+        Wider::Both | Wider::Left => left.copy(),
+        Wider::Right => right.copy(),
+        Wider::Neither(size) => Ok(size),
+    }
 }
 
 // Whether a size has room for all that another has room for. May say no for sizes of two kinds.
@@ -159,6 +163,135 @@ fn covers(size: &ValueSize, other: &ValueSize) -> bool
         }
         _ => false,
     }
+}
+
+/// Which of two sizes has room for both; if neither has, their join.
+#[derive(Drop)]
+enum Wider {
+    Both,
+    Left,
+    Right,
+    Neither(ValueSize),
+}
+
+impl Wider {
+    fn is_left(&self) -> bool
+        ensures { (s t : Size) → IsTrue result → IsWider self.now s t → join s t ≡ s }
+    {
+        matches!(self, Wider::Both | Wider::Left)
+    }
+
+    fn is_right(&self) -> bool
+        ensures { (s t : Size) → IsTrue result → IsWider self.now s t → join s t ≡ t }
+    {
+        matches!(self, Wider::Both | Wider::Right)
+    }
+
+    // The join of the parts of which this tells. A part that has room for both is shared.
+    fn shared(
+        self,
+        alloc: Global,
+        left: &Rc<ValueSize>,
+        right: &Rc<ValueSize>,
+    ) -> Result<Rc<ValueSize>, AllocError>
+        requires { IsWider self (size_view left.now.value) (size_view right.now.value) }
+        ensures { IfOk result (λ part. size_view part.value
+            ≡ join (size_view left.now.value) (size_view right.now.value)) }
+    {
+        match self {
+            Wider::Both => left.clone(),
+            Wider::Left => left.clone(),
+            Wider::Right => right.clone(),
+            Wider::Neither(size) => Ok(Rc::new(alloc, size)?),
+        }
+    }
+}
+
+// Whether both left parts of two maps' sizes have room for both. The next one asks the same of the right parts.
+fn are_left(keys: &Wider, values: &Wider) -> bool
+    ensures { (k j v w : Size) → IsTrue result → IsWider keys.now k j → IsWider values.now v w
+        → (join k j ≡ k) × (join v w ≡ v) }
+{
+    keys.is_left() && values.is_left()
+}
+
+fn are_right(keys: &Wider, values: &Wider) -> bool
+    ensures { (k j v w : Size) → IsTrue result → IsWider keys.now k j → IsWider values.now v w
+        → (join k j ≡ j) × (join v w ≡ w) }
+{
+    keys.is_right() && values.is_right()
+}
+
+// The answer for two sizes of which the left one, the right one or both are known to have room for both.
+fn known_wider(left: bool, right: bool) -> Option<Wider>
+    ensures { (s t : Size) → (IsTrue left → join s t ≡ s) → (IsTrue right → join s t ≡ t)
+        → IfSome result (λ wider. IsWider wider s t) }
+{
+    match (left, right) {
+        (true, true) => Some(Wider::Both),
+        (true, false) => Some(Wider::Left),
+        (false, true) => Some(Wider::Right),
+        (false, false) => None,
+    }
+}
+
+// Goes over the parts of both sizes once.
+#[cycle(join)]
+fn wider_of(alloc: Global, left: &ValueSize, right: &ValueSize) -> Result<Wider, AllocError>
+    ensures { IfOk result (λ wider. IsWider wider (size_view left.now) (size_view right.now)) }
+{
+    match (left, right) {
+        (_, ValueSize::Flat) => Ok(Wider::Left),
+        (ValueSize::Flat, _) => Ok(Wider::Right),
+        (ValueSize::Text(most), ValueSize::Text(other)) => Ok(wider_text(*most, *other)),
+        (ValueSize::Many(most, items), ValueSize::Many(other, others)) => {
+            wider_many(alloc, *most, *other, items, others)
+        }
+        (ValueSize::Table(most, keys, values), ValueSize::Table(other, others, further)) => {
+            let first = wider_of(alloc, keys, others)?;
+            let second = wider_of(alloc, values, further)?;
+            let left = *most >= *other && are_left(&first, &second);
+            let right = *other >= *most && are_right(&first, &second);
+            if let Some(known) = known_wider(left, right) {
+                return Ok(known);
+            }
+            let keys = first.shared(alloc, keys, others)?;
+            let values = second.shared(alloc, values, further)?;
+            Ok(Wider::Neither(ValueSize::Table((*most).max(*other), keys, values)))
+        }
+        _ => Ok(Wider::Neither(join_parts(alloc, left, right)?)),
+    }
+}
+
+// The same for two lists' sizes.
+#[cycle(join)]
+fn wider_many(
+    alloc: Global,
+    most: u64,
+    other: u64,
+    items: &Rc<ValueSize>,
+    others: &Rc<ValueSize>,
+) -> Result<Wider, AllocError>
+    ensures { IfOk result (λ wider. IsWider wider (Many most (size_view items.now.value))
+        (Many other (size_view others.now.value))) }
+{
+    let part = wider_of(alloc, items, others)?;
+    let left = most >= other && part.is_left();
+    let right = other >= most && part.is_right();
+    if let Some(known) = known_wider(left, right) {
+        return Ok(known);
+    }
+    let shared = part.shared(alloc, items, others)?;
+    Ok(Wider::Neither(ValueSize::Many(most.max(other), shared)))
+}
+
+fn wider_text(most: u64, other: u64) -> Wider
+    ensures { IsWider result (Text most) (Text other) }
+{
+    if most >= other {
+        return Wider::Left;
+    }
+    Wider::Right
 }
 
 // Joins two sizes part by part.

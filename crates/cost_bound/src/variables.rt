@@ -2,7 +2,7 @@
 
 ghost use Rattle.std.specs.Prelude.{◌≡◌, ◌∷◌, ◌++◌, IfOk, length};
 ghost use Rattle.cel_types.specs.Names.{variable_count};
-ghost use Rattle.cost_bound.specs.Costs.{variable_sizes};
+ghost use Rattle.cel_costs.specs.Costs.{variable_sizes};
 ghost use Rattle.cost_bound.specs.steps.ScopeView.{IsCounted, locals_view, scope_view};
 ghost use Rattle.cost_bound.specs.steps.SizeView.{size_view, variables_view};
 

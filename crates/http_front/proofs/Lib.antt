@@ -4,6 +4,7 @@ pub mod FieldNames
 pub mod Texts
 pub mod HeadTexts
 pub mod Rooms
+pub mod HeadLines
 pub mod Requests
 pub mod Resuming
 pub mod Agreeing
@@ -17,4 +18,5 @@ pub mod Spans
 pub mod Held
 pub mod Framings
 pub mod RuleLemmas
+pub mod Spelling
 pub mod StandardFacts

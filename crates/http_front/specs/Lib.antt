@@ -1,10 +1,12 @@
 pub mod Head
 pub mod Rules
 pub mod Asks
+pub mod Parts
 pub mod Bodies
 pub mod Closing
 pub mod Heads
 pub mod InTurn
 pub mod Front
+pub mod Lines
 pub mod Answer
 pub mod steps

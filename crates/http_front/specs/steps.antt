@@ -3,6 +3,7 @@
 pub mod Asks
 pub mod Elements
 pub mod Parsed
+pub mod Parts
 pub mod Turns
 pub mod Scans
 pub mod Rows

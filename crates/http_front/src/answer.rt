@@ -54,6 +54,20 @@ struct Row {
 const DENIED: &str = "RBAC: access denied";
 
 impl Case {
+    /// The status of the answer (RFC 9110, section 15).
+    pub fn status(self) -> u16
+        ensures { result ≡ (row_of self).status }
+    {
+        self.row().status
+    }
+
+    /// The word of the answer's field `x-rbac-verdict`.
+    pub fn verdict(self) -> &'static str
+        ensures { result.now ≡ (row_of self).verdict }
+    {
+        self.row().verdict
+    }
+
     // The row of this case.
     fn row(self) -> Row
         ensures { row_view result ≡ row_of self }

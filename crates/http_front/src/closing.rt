@@ -82,7 +82,8 @@ impl<'a> Iterator for Elements<'a> {
     }
 }
 
-fn trim_ows(text: &[u8]) -> &[u8]
+/// The bytes without the spaces and tabs at both ends.
+pub(crate) fn trim_ows(text: &[u8]) -> &[u8]
     ensures { result.now ≡ trim_ows text.now }
 {
     trim_end(trim_start(text))

@@ -1,14 +1,17 @@
 //! The front of a connection.
-ghost use Rattle.std.specs.Prelude.{◌≡◌, ◌≤◌, ◌++◌, IfOk, Ok, OnErr, OnOk, drop, true, false, vec_len};
+ghost use Rattle.std.specs.Prelude.{◌≡◌, ◌≤◌, ◌++◌, ◌↔◌, [], IfOk, IsTrue, Ok, OnErr, OnOk, drop, option_map, true, false, vec_len};
 ghost use Rattle.std.specs.Bool.{OnTrue};
 ghost use Rattle.attributes.specs.Conn.{conn_view};
+ghost use Rattle.attributes.specs.Headers.{lines_view};
 ghost use Rattle.http_front.specs.Answer.{answer_of, reply_view};
 ghost use Rattle.http_front.specs.Front.{HasNoAsk, TakesNext, fed_front, keeping, new_front};
-ghost use Rattle.http_front.specs.Heads.{closed, is_closed};
+ghost use Rattle.http_front.specs.Heads.{closed, is_closed, reading};
+ghost use Rattle.http_front.specs.Lines.{AreNextLines};
 ghost use Rattle.http_front.specs.steps.Turns.{IsNextTurn, passing};
 
 use crate::answer::Reply;
 use crate::ask::Ask;
+use crate::lines::lines_at;
 use crate::read::HEAD_ROOM;
 use crate::scan::Scan;
 use crate::turn::{Turn, turn_of};
@@ -28,8 +31,8 @@ pub struct Front {
     // how many bytes of a body are still to be skipped
     skip: u64,
     is_closed: bool,
-    // whether a head was looked for and is incomplete. Then further bytes are scanned, and the head is parsed again
-    // only if the scan stops
+    // whether a head was looked for in some bytes and is incomplete. Then further bytes are scanned, and the head is
+    // parsed again only if the scan stops. Without bytes the next ones are parsed at once
     is_tried: bool,
     // the scan of the first bytes whose ask was not given, and their number
     scan: Scan,
@@ -142,11 +145,29 @@ impl Front {
         Ok(self.take(turn))
     }
 
+    /// The field lines of the next ask, in order of arrival, each a name in lower case and a value. `None` if its head
+    /// breaks a rule, or is incomplete.
+    pub fn lines(&self) -> Result<Option<Vec<(String, String)>>, AllocError>
+        ensures { IfOk result (λ found. AreNextLines self.now (option_map (λ lines. lines_view lines.items) found)) }
+    {
+        if self.is_closed || self.skip > 0 {
+            return Ok(None);
+        }
+        lines_at(*self.bytes.allocator(), &self.bytes[self.at..])
+    }
+
     /// Whether the connection closes after the asks that were taken.
     pub fn is_closed(&self) -> bool
         ensures { result ≡ is_closed self.now.kept }
     {
         self.is_closed
+    }
+
+    /// Whether it is as a new front is: it keeps no byte, and no byte of a body is still to be skipped.
+    pub fn is_fresh(&self) -> bool
+        ensures { IsTrue result ↔ (self.now.kept ≡ reading 0 []) }
+    {
+        !self.is_closed && self.skip == 0 && self.at == self.bytes.len()
     }
 
     /// The bytes of an answer.
@@ -196,7 +217,7 @@ impl Front {
     {
         match turn {
             Turn::Rest => {
-                self.is_tried = self.skip == 0;
+                self.is_tried = self.skip == 0 && self.at < self.bytes.len();
                 None
             }
             Turn::Close(ask) => {

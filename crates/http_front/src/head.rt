@@ -2,6 +2,7 @@
 ghost use Rattle.std.specs.Prelude.{◌≡◌, ◌≤◌, ◌<◌, ◌^◌, ◌↔◌, ◌==◌, All, Any, IfNone, IfOk, IfSome, IsTrue, MatchBool, count_by, length};
 ghost use Rattle.std.specs.Bool.{OnFalse, OnTrue};
 ghost use Rattle.attributes.specs.Conn.{conn_view};
+ghost use Rattle.attributes.specs.Headers.{lines_view};
 ghost use Rattle.httparse.specs.Ascii.{line_feed};
 ghost use Rattle.http_front.specs.declared.fault.HeadFault.{HeadFault};
 ghost use Rattle.http_front.specs.steps.Parsed.{AreTexts, IsParsed};
@@ -130,6 +131,14 @@ impl<'a> Head<'a> {
         let target = copy_text(alloc, self.target)?;
         let lines = lower_lines(alloc, self.bytes, self.fields)?;
         Request::new(alloc, method, target, self.is_http11, lines, conn)
+    }
+
+    /// The field lines of the head, each a name in lower case and a value.
+    pub(crate) fn lines(&self, alloc: Global) -> Result<Vec<(String, String)>, AllocError>
+        requires { AreTexts self.now }
+        ensures { IfOk result (λ lines. lines_view lines.items ≡ lines_of self.now) }
+    {
+        lower_lines(alloc, self.bytes, self.fields)
     }
 
     /// Whether the head has more fields than any request within the limits. This is tested before a request

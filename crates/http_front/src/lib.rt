@@ -12,13 +12,17 @@ mod front;
 mod head;
 pub mod laws;
 mod line;
+mod lines;
 mod part;
+mod parts;
 mod read;
 mod scan;
+mod spelled;
 mod turn;
 
 pub use answer::{Case, Reply};
 pub use ask::Ask;
 pub use fault::{HeadFault, HeadPart};
 pub use front::Front;
+pub use parts::{HeadParts, Line, request_of_parts};
 pub use read::{HeadAsk, read_head};

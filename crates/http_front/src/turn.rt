@@ -29,7 +29,7 @@ pub(crate) enum Turn {
 
 /// If there are more bytes than this, the end of the first head is sought before it is parsed. Then the bytes after the
 /// head cost nothing.
-const FEW: usize = 1_024;
+pub(crate) const FEW: usize = 1_024;
 
 /// The first ask of the bytes.
 pub(crate) fn turn_of(
@@ -149,8 +149,8 @@ fn turn_of_ask(ask: HeadAsk, head: &Head<'_>, size: usize) -> Turn
     }
 }
 
-// How many bytes the first head has, if its end is within the greatest length. No contract depends on it.
-fn likely_end(bytes: &[u8]) -> usize
+/// How many bytes the first head has, if its end is within the greatest length. No contract depends on it.
+pub(crate) fn likely_end(bytes: &[u8]) -> usize
     ensures { (result ≤ length bytes.now) × (result ≤ head_room) }
 {
     let room = bytes.len().min(HEAD_ROOM);

@@ -1,4 +1,4 @@
--- What a `?` passes on: want of memory stays that, and a callee's fault becomes the caller's.
+-- What a `?` passes on: out of memory stays that, and a callee's fault becomes the caller's.
 use Rattle.std.proofs.Common.{◌≡◌, inl, inr, ap, ◌∙◌}
 use Rattle.std.specs.Prelude.{Result, Err, IfErr, IsErrAnd, MatchResult}
 use Rattle.std.proofs.lemmas.Result.{err_from_is_err_and, MatchResult-weaker}
@@ -20,7 +20,7 @@ module _ (F G : Refusal → Type 0) where
       let p = err_from_is_err_and r left in
       rw (p.1, p.2) (memory_or_weaker e weaker fault)
 
--- where a callee can have no fault of its own, its `?` passes on want of memory alone
+-- where a callee can have no fault of its own, its `?` passes on out of memory alone
 pub exit_only_memory : (F : Refusal → Type 0) {T : Type 0} (P : T → Type 0) (r : Result T Refusal)
     (e : Refusal)
     → IsErrAnd r (λ y. y ≡ e) → MemoryOr F e → (F e → ⊥) → MatchResult r P (λ y. y ≡ Memory)

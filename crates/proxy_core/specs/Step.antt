@@ -150,6 +150,11 @@ pub data EventCall : Type 0 where
   answered : EventValue → OutputValue → EventCall
   no_memory : EventValue → EventCall
 
+-- the event of a call
+abbrev pub event_of : EventCall → EventValue
+event_of (answered event out) = event
+event_of (no_memory event) = event
+
 -- the effect of a call: if memory ran out, nothing changes
 abbrev pub CallDoes : ProxyValue → EventCall → ProxyValue → Type 0
 CallDoes old (answered event out) new = StepsBy old event out new

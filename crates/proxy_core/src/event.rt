@@ -3,7 +3,7 @@
 use attributes::Conn;
 
 /// An event for the core: each event is one step.
-#[derive(Debug)]
+#[derive(Debug, Drop)]
 pub enum Event<'a> {
     /// The update stream comes up. If a stream is up already, it is lost first.
     AdsUp,

@@ -1,9 +1,10 @@
 //! A connection that is open, beside the client that it shares with others.
 
-ghost use Rattle.std.specs.Prelude.{◌≡◌, IfOk, IfSome, IsOk};
+ghost use Rattle.std.specs.Prelude.{◌≡◌, ◌↔◌, [], IfOk, IfSome, IsOk, IsTrue};
 ghost use Rattle.attributes.specs.Conn.{conn_view};
 ghost use Rattle.attributes.specs.Limits.{FactsInLimits};
 ghost use Rattle.ads.specs.Ends.{client_view};
+ghost use Rattle.http_front.specs.Heads.{reading};
 ghost use Rattle.proxy_core.specs.Step.{OpensFront, TellsBytes};
 
 use crate::hearing::{opened, taken};
@@ -72,5 +73,12 @@ impl Session {
             return Ok((answers, None, told));
         };
         Ok((answers, Some(Session { front }), told))
+    }
+
+    /// Whether it is as a new one with its facts is: each byte so far belongs to a request that was answered.
+    pub fn is_fresh(&self) -> bool
+        ensures { IsTrue result ↔ (self.now.kept ≡ reading 0 []) }
+    {
+        self.front.is_fresh()
     }
 }

@@ -73,7 +73,7 @@ module _ (r : RequestValue) where
     this_has_none none =
         none_at (map (policy_view list) (take i items)) (map (policy_view list) (drop (i + 1) items)) ((policy_view list) item) (rw split at none)
 
--- want of memory is no passing of a bound
+-- running out of memory does not pass a bound
 pub memory_is_other : {V : Type 0} (answer : Result V RunError) (x y : RunError) → answer ≡ Err x → x ≡ y
     → y ≡ RunError.Memory → answer ≡ Err RunError.OutOfSteps → ⊥
 memory_is_other {V} answer x y is same memory out =

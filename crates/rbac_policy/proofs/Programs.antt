@@ -16,7 +16,7 @@ use Rattle.cel_tree.specs.GoodConstants.{HasGoodConstants}
 use Rattle.cel_types.specs.Meaning.{eval}
 use Rattle.cel_types.specs.Typing.{maps_of}
 use Rattle.cel_types.proofs.OneElaboration.{one_elaboration}
-use Rattle.cost_bound.specs.Costs.{cost_of}
+use Rattle.cel_costs.specs.Costs.{cost_of}
 use Rattle.cel_compile.specs.Codes.{code_of}
 use Rattle.cel_compile.specs.Sound.{RunsToMeaning}
 use Rattle.cel_compile.proofs.Meaning.{code_means}

@@ -22,7 +22,7 @@ use Rattle.cel_types.specs.Typing.{IsTyped, maps_of}
 use Rattle.cel_types.proofs.CheckLaws.{check_disjoint, check_total}
 use Rattle.cel_types.proofs.Elaborating.{elaborated}
 use Rattle.cel_types.proofs.OneType.{one_type}
-use Rattle.cost_bound.specs.Costs.{cost_of}
+use Rattle.cel_costs.specs.Costs.{cost_of}
 use Rattle.cel_compile.specs.Codes.{code_of}
 use Rattle.rbac_match.specs.Rules.{IsRule, AreRules, RuleFault}
 use Rattle.rbac_match.specs.Formula.{Formulas}

@@ -245,7 +245,7 @@ module _ (r : RequestValue) where
 
 -- ---- how there may be no trials
 
--- what is no answer is want of memory or of steps
+-- what is no answer is out of memory or out of steps
 pub only_errors : {V : Type 0} (answer : Result V RunError) → IfOk answer (λ v. ⊥)
     → IfErr answer (λ e. (e ≡ RunError.Memory) ⊎ (e ≡ RunError.OutOfSteps))
     → (answer ≡ Err RunError.Memory) ⊎ (answer ≡ Err RunError.OutOfSteps)

@@ -7,7 +7,7 @@ use Rattle.cel_value.specs.Values.{CelAnswer, bool, value}
 use Rattle.cel_tree.specs.Checked.{CelChecked}
 use Rattle.cel_types.specs.Elaborated.{IsElaborated, TypedTree, kind}
 use Rattle.cel_types.specs.Meaning.{eval}
-use Rattle.cost_bound.specs.Costs.{cost_of}
+use Rattle.cel_costs.specs.Costs.{cost_of}
 use Rattle.cel_compile.specs.Codes.{code_of}
 use Rattle.stack_machine.specs.Instructions.{Instruction}
 use Rattle.stack_machine.specs.Machine.{RunsOut}

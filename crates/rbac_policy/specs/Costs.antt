@@ -5,7 +5,7 @@ use Rattle.attributes.specs.Limits.{LimitsValue}
 use Rattle.cel_value.specs.Types.{bool_type}
 use Rattle.cel_tree.specs.Checked.{CelChecked}
 use Rattle.cel_types.specs.Elaborated.{IsElaborated, TypedTree, kind}
-use Rattle.cost_bound.specs.Costs.{cost_of}
+use Rattle.cel_costs.specs.Costs.{cost_of}
 use Rattle.rbac_policy.specs.Filter.{Filter, Policy}
 
 -- the condition has the type bool, and this is its cost for requests within the limits

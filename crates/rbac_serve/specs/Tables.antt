@@ -1,10 +1,11 @@
 -- What a worker keeps (this project's own).
-use Rattle.std.specs.Prelude.{◌≡◌, ℕ, zero, suc, List, [], ◌∷◌, Option, None, map, set, get_or, IfSome}
+use Rattle.std.specs.Prelude.{◌≡◌, ℕ, zero, suc, List, [], ◌∷◌, Option, Some, None, map, set, get_or, IfSome}
 use Rattle.attributes.specs.Limits.{LimitsValue}
 use Rattle.ads.specs.Config.{ConfigValue}
 use Rattle.ads.specs.Ends.{client_view}
 use Rattle.ads.specs.declared.client.Client.{Client}
 use Rattle.http_front.specs.Front.{FrontValue}
+use Rattle.http_front.specs.Heads.{reading}
 use Rattle.proxy_core.specs.Step.{ProxyValue, new_with, with_conn}
 use Rattle.rbac_serve.specs.declared.guest.Guest.{Guest}
 
@@ -27,6 +28,11 @@ new_worker n c = record { core = new_with n c; answers = nothing_waits n; reques
 -- the answers that wait in a place
 abbrev pub waiting_at : ℕ → List (List ℕ) → List ℕ
 waiting_at k answers = get_or answers k []
+
+-- a connection is open, and is as a new one with its facts
+abbrev pub IsFresh : Option FrontValue → Type 0
+IsFresh None = ⊥
+IsFresh (Some front) = front.kept ≡ reading 0 []
 
 -- the worker once the connection in the place was closed
 abbrev pub closed_at : ℕ → WorkerValue → WorkerValue

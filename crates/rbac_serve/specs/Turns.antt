@@ -120,6 +120,7 @@ requested_then so_far (called (answered (ads_bytes bytes) out)) = so_far ++ out.
 requested_then so_far (called (answered ads_lost out)) = []
 requested_then so_far turn = so_far
 
+-- what was sent on the update stream, since it last came up or was lost
 abbrev pub requests_sent_then : List ℕ → Turn → List ℕ
 requests_sent_then so_far (called (answered ads_up out)) = []
 requests_sent_then so_far (called (answered ads_lost out)) = []

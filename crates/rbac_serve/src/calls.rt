@@ -5,7 +5,8 @@ ghost use Rattle.std.specs.Io.KnownBytes.{Appends};
 ghost use Rattle.attributes.specs.Conn.{conn_view};
 ghost use Rattle.ads.specs.Ends.{client_view};
 ghost use Rattle.proxy_core.specs.Events.{ads_bytes, ads_lost, ads_output, ads_up, http_closed, http_open, http_output, no_output};
-ghost use Rattle.rbac_serve.specs.Tables.{closed_at, new_worker, waiting_at};
+ghost use Rattle.proxy_core.specs.Step.{front_at};
+ghost use Rattle.rbac_serve.specs.Tables.{IsFresh, closed_at, new_worker, waiting_at};
 ghost use Rattle.rbac_serve.specs.Turns.{FeedsTurn, TellsTurn, TurnDoes, Works, answer_sent, request_sent};
 ghost use Rattle.rbac_serve.specs.Workers.{worker_view};
 
@@ -56,6 +57,27 @@ impl Worker {
             Some(guest) => guest.outbox.len(),
             None => 0,
         }
+    }
+
+    /// Whether the connection in place `k` is as one that was just opened: each of its bytes belongs to a request that was
+    /// answered.
+    pub fn is_fresh(&self, k: usize) -> bool
+        ensures { IsTrue result ↔ IsFresh (front_at (worker_view self.now).core k) }
+    {
+        match self.guests.get(k) {
+            Some(guest) => match &guest.session {
+                Some(session) => session.is_fresh(),
+                None => false,
+            },
+            None => false,
+        }
+    }
+
+    /// The bytes of the request that waits for the update stream.
+    pub fn request(&self) -> &[u8]
+        ensures { result.now ≡ (worker_view self.now).requests }
+    {
+        self.requests.rest()
     }
 
     /// Whether a request waits for the update stream.

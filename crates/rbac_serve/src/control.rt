@@ -4,6 +4,7 @@ use crate::line::{Line, Step};
 use crate::network::{Loss, Network, Service, Stream};
 use crate::settings::{Moment, Settings, longer};
 use std::alloc::{AllocError, Global};
+use std::io::ErrorKind;
 
 /// The update stream.
 #[derive(Drop)]
@@ -57,8 +58,10 @@ impl<T: Stream> Control<T> {
         service: &mut S,
         now: u64,
     ) -> Step {
-        let Ok(stream) = network.connect() else {
-            return Step::Lost(Loss::Unreachable);
+        let stream = match network.connect() {
+            Ok(stream) => stream,
+            Err(error) if error.kind() == ErrorKind::WouldBlock => return Step::Waits,
+            Err(_) => return Step::Lost(Loss::Unreachable),
         };
         match service.up() {
             Ok(()) => {
@@ -72,7 +75,7 @@ impl<T: Stream> Control<T> {
     fn go_on<S: Service>(&mut self, step: Step, service: &mut S, moment: &Moment) {
         match step {
             Step::Waits => {}
-            Step::Again => self.due = true,
+            Step::Again | Step::Judged => self.due = true,
             Step::Lost(loss) => self.lose(loss, service, moment),
         }
     }

@@ -18,6 +18,8 @@ pub(crate) enum Step {
     Waits,
     /// A further turn.
     Again,
+    /// The same, after the connections had theirs, since a response was judged.
+    Judged,
     /// The stream is lost.
     Lost(Loss),
 }
@@ -55,11 +57,13 @@ impl<T: Stream> Line<T> {
         }
     }
 
-    /// Writes the request that waits, and reads and judges what came. Nothing is judged while a request waits.
+    /// Writes the request that waits, and reads and judges what came. Nothing is judged while a request waits. The turn
+    /// ends once a response was judged, since that may have taken long.
     pub(crate) fn turn<S: Service>(&mut self, service: &mut S, moment: &Moment) -> Step {
         for _ in 0..PIECES {
             match self.step(service, moment) {
                 Step::Again => {}
+                Step::Judged => return Step::Again,
                 step => return step,
             }
         }
@@ -153,7 +157,10 @@ impl<T: Stream> Line<T> {
             let _ = service.send_request(&mut self.stream);
             return Step::Lost(Loss::Broken);
         }
-        Step::Again
+        match taken.response {
+            Some(_) => Step::Judged,
+            None => Step::Again,
+        }
     }
 
     /// Why the stream is lost now, if it is: a time has passed.

@@ -35,13 +35,15 @@ pub trait Network {
     /// `WouldBlock` if none waits.
     fn accept(&mut self, k: usize) -> io::Result<(Self::Stream, Conn)>;
 
-    /// A stream to the control plane.
+    /// A stream to the control plane. Fails with `WouldBlock` while it is being connected; later it is reported.
     fn connect(&mut self) -> io::Result<Self::Stream>;
 }
 
 /// The result of bytes of a connection.
 #[derive(Clone, Copy, PartialEq, Eq, Debug)]
 pub struct Heard {
+    /// Whether each byte so far belongs to a request that was answered.
+    pub rests: bool,
     /// Whether a request was answered.
     pub answers: bool,
     /// Whether the connection is to be closed once the answers were sent.
@@ -123,6 +125,9 @@ pub trait Service {
 
     /// The connection is closed, and what waits for it is dropped.
     fn close(&mut self, k: usize, end: End);
+
+    /// A connection that waited could not be accepted, for this cause.
+    fn refused(&mut self, cause: io::Error);
 
     /// How many bytes wait for the connection.
     fn waiting(&self, k: usize) -> usize;

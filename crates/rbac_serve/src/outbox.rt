@@ -69,6 +69,13 @@ impl Outbox {
         self.len() == 0
     }
 
+    /// The bytes that wait.
+    pub fn rest(&self) -> &[u8]
+        ensures { result.now ≡ self.now }
+    {
+        &self.bytes[self.sent..]
+    }
+
     /// Puts bytes after those that wait. After an error all is as before the call.
     pub fn put(&mut self, bytes: &[u8]) -> Result<(), AllocError>
         ensures whole { OnOk result (self.new ≡ self.old ++ bytes.now) }

@@ -149,9 +149,9 @@ impl<T: Stream> Peer<T> {
         match service.bytes(k, bytes) {
             Ok(heard) => {
                 self.begun = match self.begun {
-                    _ if heard.answers => None,
-                    Some(begun) => Some(begun),
-                    None => Some(now),
+                    _ if heard.rests => None,
+                    Some(begun) if !heard.answers => Some(begun),
+                    _ => Some(now),
                 };
                 if heard.closes {
                     self.phase = Phase::Ends(false);

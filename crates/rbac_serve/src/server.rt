@@ -106,7 +106,7 @@ impl<T: Stream> Server<T> {
     fn is_due(&self) -> bool {
         !self.due.is_empty()
             || (self.control.due && self.drains.is_none())
-            || (self.accepts && !self.fails && !self.free.is_empty())
+            || (self.accepts && !self.fails && !self.free.is_empty() && self.drains.is_none())
     }
 
     // Notes what is ready.
@@ -151,7 +151,7 @@ impl<T: Stream> Server<T> {
                 Ok(accepted) => self.admit(k, accepted, service, moment)?,
                 Err(error) => {
                     self.free.push(k)?;
-                    self.refused(error.kind());
+                    self.refused(error, service);
                 }
             }
         }
@@ -159,11 +159,14 @@ impl<T: Stream> Server<T> {
     }
 
     // No connection was accepted: none waits, or the next try is after a tick.
-    fn refused(&mut self, kind: ErrorKind) {
-        match kind {
+    fn refused<S: Service>(&mut self, cause: io::Error, service: &mut S) {
+        match cause.kind() {
             ErrorKind::WouldBlock => self.accepts = false,
             ErrorKind::Interrupted | ErrorKind::ConnectionAborted => {}
-            _ => self.fails = true,
+            _ => {
+                self.fails = true;
+                service.refused(cause);
+            }
         }
     }
 

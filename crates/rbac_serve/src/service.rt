@@ -5,7 +5,7 @@ use crate::outbox::Sent;
 use crate::worker::Worker;
 use attributes::Conn;
 use std::alloc::AllocError;
-use std::io::Write;
+use std::io::{self, Write};
 
 impl Service for Worker {
     fn places(&self) -> usize {
@@ -19,6 +19,7 @@ impl Service for Worker {
     fn bytes(&mut self, k: usize, bytes: &[u8]) -> Result<Heard, AllocError> {
         let answered = Worker::bytes(self, k, bytes)?;
         Ok(Heard {
+            rests: Worker::is_fresh(self, k),
             answers: !answered.told.is_empty(),
             closes: answered.closes,
         })
@@ -27,6 +28,8 @@ impl Service for Worker {
     fn close(&mut self, k: usize, _end: End) {
         Worker::close(self, k);
     }
+
+    fn refused(&mut self, _cause: io::Error) {}
 
     fn waiting(&self, k: usize) -> usize {
         Worker::waiting(self, k)
@@ -65,7 +68,7 @@ impl Service for Worker {
 
 /// The judgement of the response that was complete since the generation was this, if there was one. A request answers
 /// each.
-fn judged_since(worker: &Worker, before: u64) -> Option<Judged> {
+pub fn judged_since(worker: &Worker, before: u64) -> Option<Judged> {
     if worker.client().generation() != before {
         return Some(Judged::Accepted);
     }

@@ -6,7 +6,7 @@ ghost use Rattle.std.specs.Prelude.{◌≡◌, ◌≤◌, ◌+◌, ◌*◌, ◌�
 pub struct Settings {
     /// How many bytes wait for a connection before its requests are no longer read.
     pub pending: usize,
-    /// How long a request takes at most, from its first byte until it is complete.
+    /// How long a request takes at most, from its first byte until its head is complete, and again until its body is.
     pub head: u64,
     /// How long a connection stays open that is not used.
     pub idle: u64,

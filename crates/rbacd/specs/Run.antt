@@ -1,425 +1,38 @@
--- A run of the program: what it reads, which fault counts first, what it writes to its two outputs, and its status.
-use Rattle.std.specs.Prelude.{◌≡◌, ◌≢◌, ◌⊎◌, ◌↔◌, ◌++◌, ◌∷◌, [], ⊤, true, false, ℕ, Bool, List, Option, Some, None, Ok, Err, Result, IsTrue, codes, map, option_map, string_bytes}
-use Rattle.std.specs.List.{AllZip}
-use Rattle.std.specs.Io.KnownBytes.{Appends}
-use Rattle.std.specs.Io.{StartsWith}
-use Rattle.std.specs.IoError.{error_kind}
+-- A run of the program: the end of a server, the end of any job, and what mistaken words lead to.
+use Rattle.std.specs.Prelude.{◌≡◌, ◌⊎◌, ℕ, Bool, List, Option, IsTrue, string_bytes}
 use Rattle.std.specs.declared.io.Error.{Error as IoError}
-use Rattle.std.specs.declared.io.ErrorKind.{ErrorKind as IoKind}
-use Rattle.attributes.specs.Conn.{Facts}
-use Rattle.attributes.specs.Limits.{FactsInLimits, LimitsValue, largest}
-use Rattle.ads.specs.Control.{ControlValue, ResourceValue, new_control}
-use Rattle.proxy_core.specs.Step.{ProxyValue, new_proxy}
 use Rattle.clap.specs.Words.{Text, kind_of}
-use Rattle.clap.specs.declared.error.kind.ErrorKind.{ErrorKind}
-use Rattle.clap.specs.declared.error.kind.ErrorKind.TheVariants as kinds
-use Rattle.rbac_policy.specs.Admission.{Admissible}
-use Rattle.proto_wire.specs.declared.refusal.Refusal.{Refusal}
-use Rattle.rbacd.specs.Explain.{IsGiven, untold_text}
-use Rattle.ads.specs.Config.{ConfigValue}
 use Rattle.clap.specs.declared.error.Error.{Error}
-use Rattle.rbacd.specs.Configuration.{IsConfigText}
-use Rattle.std.specs.Fmt.{decimal}
-use Rattle.rbacd.specs.Facts.{IsFactsText, TellsNone}
-use Rattle.rbacd.specs.Replays.{IsReplayed, IsStopped}
-use Rattle.rbacd.specs.declared.replay.ReplayFault.{ReplayFault}
-use Rattle.rbacd.specs.declared.replay.ReplayFault.TheVariants as replay_faults
-use Rattle.rbacd.specs.Batches.{IsBatch, IsCutShort}
-use Rattle.rbacd.specs.Judging.{IsAllOf, IsCheckOf, IsDecision, IsOutcomeOf, IsRefusedFor, plain_facts}
-use Rattle.rbacd.specs.ControlPump.{ServesStream}
-use Rattle.serde_json.specs.Written.{compact_text}
-use Rattle.rbacd.specs.Json.{fault_json}
-use Rattle.rbacd.specs.Outcome.{line_of, printed_of, status_of}
-use Rattle.rbacd.specs.Output.{BreaksOff, Takes}
-use Rattle.rbacd.specs.Rounds.{Link, Rounds}
-use Rattle.rbacd.specs.Shown.{shown}
-use Rattle.rbacd.specs.Words.{AreMistaken, IsJobOf, is_explained, is_json}
-use Rattle.rbacd.specs.declared.explain.Explanation.{Explanation}
-use Rattle.rbacd.specs.declared.explain.Explanation.TheVariants as explanations
-use Rattle.rbacd.specs.declared.words.Job.{Job}
-use Rattle.rbacd.specs.declared.words.BatchWords.{BatchWords}
-use Rattle.rbacd.specs.declared.words.ControlWords.{ControlWords}
-use Rattle.rbacd.specs.declared.words.Job.TheVariants.{Batch, Check, CheckConfig, Control, Judge, Proxy, Replay}
-use Rattle.rbacd.specs.declared.words.ProxyWords.{ProxyWords}
-use Rattle.rbacd.specs.declared.outcome.Outcome.{Outcome}
-use Rattle.rbacd.specs.declared.outcome.Outcome.TheVariants as outcomes
-use Rattle.rbacd.specs.declared.outcome.Report.{Report}
-use Rattle.rbacd.specs.declared.job_fault.JobFault.{JobFault}
-use Rattle.rbacd.specs.declared.job_fault.JobFault.TheVariants as faults
+use Rattle.stream_pumps.specs.Rounds.{Link}
+use Rattle.command_line.specs.Words.{AreMistaken, IsJobOf}
+use Rattle.command_line.specs.declared.words.Job.{Job}
+use Rattle.command_line.specs.declared.words.Job.TheVariants.{Batch, Check, CheckConfig, Control, Judge, Proxy, Replay, Serve}
+use Rattle.program_jobs.specs.declared.job_fault.JobFault.{JobFault}
+use Rattle.program_jobs.specs.declared.job_fault.JobFault.TheVariants as faults
+use Rattle.program_jobs.specs.Jobs.{EndsBatch, EndsConfig, EndsControl, EndsProxy, EndsReplay, EndsReport, IsUnread, LeavesFault, Prints}
 
--- parameters, a source of files: which bytes the file at a path holds, and which file cannot be read, with the cause
 module _ (holds : Text → Text → Type 0) (lacks : (Text × IoError) → Type 0) where
-  -- the connection has the facts of the facts file; if no file is named, it is a plain one
-  abbrev pub IsConnOf : Option Text → Facts → Type 0
-  IsConnOf None facts = facts ≡ plain_facts
-  IsConnOf (Some path) facts =
-      (text : Text) × holds path text × IsFactsText text facts × FactsInLimits facts largest
+  -- the file at this path cannot be read, or is called bad settings of a server; that they are bad is not said
+  abbrev pub LacksSettings : Text → JobFault → Type 0
+  LacksSettings path fault = IsUnread holds lacks path fault ⊎ ((text : Text) × holds path text × (fault ≡ faults.Config))
 
-  -- the fault says that the file at this path cannot be read, with the cause
-  abbrev pub IsUnread : Text → JobFault → Type 0
-  IsUnread path (faults.File name cause) = (string_bytes name ≡ path) × lacks (path, cause)
-  IsUnread path _ = ⊥
+-- the end of a server: standard output stays, and the status is 0, or 2 if it could not begin or go on. Or memory ran out
+abbrev pub EndsHost : Option Text → Option Text → Option Text → Option Text → ℕ → Type 0
+EndsHost out out_new errors errors_new status = (((status ≡ 0) ⊎ (status ≡ 2)) × (out_new ≡ out))
+    ⊎ LeavesFault out out_new errors errors_new status faults.Memory
 
-  -- the file at this path holds no facts within the limits
-  abbrev pub HasBadFacts : Text → JobFault → Type 0
-  HasBadFacts path fault =
-      (text : Text) × holds path text × TellsNone text × (fault ≡ faults.Facts)
-
-  -- the fault says that the input cannot be read, and the cause is not out of memory
-  abbrev pub IsInputFault : JobFault → Type 0
-  IsInputFault (faults.Input cause) = error_kind cause ≢ IoKind.OutOfMemory
-  IsInputFault _ = ⊥
-
-  -- the file at this path holds this configuration
-  abbrev pub IsConfigOf : Text → ConfigValue → Type 0
-  IsConfigOf path c = (text : Text) × holds path text × IsConfigText text c
-
-  -- the file at this path cannot be read, or holds no configuration
-  abbrev pub LacksConfig : Text → JobFault → Type 0
-  LacksConfig path fault = IsUnread path fault
-      ⊎ ((text : Text) × holds path text × ((c : ConfigValue) → ¬ IsConfigText text c) × (fault ≡ faults.Config))
-
-  -- the outcome is that of checking the policy file at this path
-  pub record IsCheckedAs (policy_path : Text) (budget : ℕ) (outcome : Outcome) : Type 0 where
-    pub policy : Text
-    pub read : holds policy_path policy
-    pub found : IsCheckOf policy budget outcome
-
-  -- parameters of a judgement: the paths of the policy file and of the facts file, if one is named, the budget, and the
-  -- input
-  module _ (policy_path : Text) (facts_path : Option Text) (budget : ℕ) (input : Option Text) where
-    -- the outcome is that of the files and of all bytes of the input, with the name of the policy that matched and the
-    -- explanation
-    pub record IsJudgedAs (name : Option Text) (explanation : Explanation) (outcome : Outcome)
-        : Type 0 where
-      pub policy : Text
-      pub facts : Facts
-      pub bytes : Text
-      pub read : holds policy_path policy
-      pub conn : IsConnOf facts_path facts
-      pub all : IsAllOf input bytes
-      pub found : IsOutcomeOf policy budget facts bytes name explanation outcome
-
-    -- this fault stops the judgement, and nothing that is read before it has a fault
-    pub data StopsBy (fault : JobFault) : Type 0 where
-      no_policy : IsUnread policy_path fault → StopsBy fault
-      no_facts : (policy path : Text) → holds policy_path policy → facts_path ≡ Some path
-          → IsUnread path fault → StopsBy fault
-      bad_facts : (policy path : Text) → holds policy_path policy → facts_path ≡ Some path
-          → HasBadFacts path fault → StopsBy fault
-      no_input : (policy : Text) (facts : Facts) → holds policy_path policy
-          → IsConnOf facts_path facts → Admissible policy largest budget → IsInputFault fault
-          → StopsBy fault
-
-  -- the job with this input has this outcome, this name of the policy that matched, and this explanation
-  abbrev pub Finds : Option Text → Job → Option Text → Explanation → Outcome → Type 0
-  Finds input (Check policy budget json) name explanation outcome =
-      IsCheckedAs (string_bytes policy) budget outcome
-  Finds input (Judge policy facts budget json explain) name explanation outcome =
-      IsJudgedAs (string_bytes policy) (option_map string_bytes facts) budget input name explanation outcome
-  Finds input _ name explanation outcome = ⊥
-
-  -- this fault stops the job with this input
-  abbrev pub IsStoppedBy : Option Text → Job → JobFault → Type 0
-  IsStoppedBy input (Check policy budget json) fault = IsUnread (string_bytes policy) fault
-  IsStoppedBy input (Judge policy facts budget json explain) fault =
-      StopsBy (string_bytes policy) (option_map string_bytes facts) budget input fault
-  IsStoppedBy input _ fault = ⊥
-
-  -- the result of the job with this input: a report, or the fault that stops it. The report has an explanation exactly
-  -- if the job asks for one and there is a verdict to explain
-  abbrev pub ComesTo : Option Text → Job → Result Report JobFault → Type 0
-  ComesTo input job (Ok report) = (report.json ≡ is_json job)
-      × (IsGiven report.explanation ↔ (IsTrue (is_explained job) × IsDecision report.outcome))
-      × ((report.outcome ≡ outcomes.Memory)
-      ⊎ Finds input job (option_map string_bytes report.name) report.explanation report.outcome)
-  ComesTo input job (Err fault) = IsStoppedBy input job fault
-
--- the first line of a fault on standard error, if it has one
-abbrev pub first_line : JobFault → Text
-first_line (faults.Words error) = []
-first_line (faults.File path cause) = codes "cannot read " ++ shown (string_bytes path) ++ 10 ∷ []
-first_line faults.Facts = codes "bad facts" ++ 10 ∷ []
-first_line faults.Config = codes "bad config" ++ 10 ∷ []
-first_line (faults.Input cause) = codes "cannot read standard input" ++ 10 ∷ []
-first_line (faults.Log path cause) = codes "cannot write " ++ shown (string_bytes path) ++ 10 ∷ []
-first_line (faults.Listen address cause) = codes "cannot listen " ++ shown (string_bytes address) ++ 10 ∷ []
-first_line faults.Memory = []
-
--- the status of a fault
-abbrev pub status_of_fault : JobFault → ℕ
-status_of_fault faults.Facts = 6
-status_of_fault faults.Config = 6
-status_of_fault faults.Memory = 5
-status_of_fault fault = 2
-
--- the words of a fault that stops a job with a report
-abbrev pub fault_words : JobFault → Text
-fault_words (faults.File path cause) = codes "cannot read " ++ shown (string_bytes path)
-fault_words faults.Facts = codes "bad facts"
-fault_words (faults.Input cause) = codes "cannot read standard input"
-fault_words fault = []
-
--- the line with the fault's JSON object
-abbrev pub fault_object : JobFault → Text → Text
-fault_object fault cause = compact_text (fault_json (fault_words fault) cause) ++ 10 ∷ []
-
--- the words only ask for a text: the help or the version
-abbrev pub IsShown : ErrorKind → Type 0
-IsShown kind = (kind ≡ kinds.DisplayHelp) ⊎ (kind ≡ kinds.DisplayVersion)
-
--- standard error for a verdict: if the trials cannot be shown, the cause is written; otherwise nothing is
-abbrev pub TellsCause : Option Text → Option Text → Explanation → Type 0
-TellsCause errors errors_new explanations.Absent = errors_new ≡ errors
-TellsCause errors errors_new (explanations.Trials trials) = errors_new ≡ errors
-TellsCause errors errors_new (explanations.Untold cause) = Takes errors errors_new (untold_text cause)
-
--- standard error for an outcome: any text after a refusal or a head's fault; otherwise as for a verdict
-abbrev pub IsTold : Option Text → Option Text → Explanation → Outcome → Type 0
-IsTold errors errors_new explanation (outcomes.Refused reason) = ⊤
-IsTold errors errors_new explanation (outcomes.Fault fault) = ⊤
-IsTold errors errors_new explanation _ = TellsCause errors errors_new explanation
-
--- parameters: the bytes of the two outputs before a run (`out` and `errors`) and after it (`out_new` and `errors_new`),
--- and its status
-module _ (out out_new errors errors_new : Option Text) (status : ℕ) where
-  -- the text is written to standard output, with this status, and nothing to standard error; or the output breaks off,
-  -- with status 2
-  abbrev pub Prints : ℕ → Text → Type 0
-  Prints good text = ((status ≡ good) × Appends out out_new text × (errors_new ≡ errors))
-      ⊎ ((status ≡ 2) × BreaksOff out out_new text)
-
-  -- nothing is written to standard output, and this is the status. A text that begins with `text` is written to
-  -- standard error, or a beginning of it, if that fails
-  abbrev pub Tells : ℕ → Text → Type 0
-  Tells bad text = (status ≡ bad) × (out_new ≡ out)
-      × ((told : Text) × StartsWith told text × Takes errors errors_new told)
-
-  -- if the words ask for a text, it is written to standard output, with status 0. Otherwise some text is written to
-  -- standard error, with status 2
-  abbrev pub TellsWords : ErrorKind → Type 0
-  TellsWords kind = (IsShown kind × ((text : Text) × Prints 0 text))
-      ⊎ ((¬ IsShown kind) × Tells 2 [])
-
-  -- the outputs and the status of a run that this fault stops
-  abbrev pub LeavesFault : JobFault → Type 0
-  LeavesFault (faults.Words error) = TellsWords (kind_of error)
-  LeavesFault (faults.File path cause) = Tells 2 (first_line (faults.File path cause))
-  LeavesFault faults.Facts = Tells 6 (first_line faults.Facts)
-  LeavesFault faults.Config = Tells 6 (first_line faults.Config)
-  LeavesFault (faults.Input cause) = Tells 2 (first_line (faults.Input cause))
-  LeavesFault (faults.Log path cause) = Tells 2 (first_line (faults.Log path cause))
-  LeavesFault (faults.Listen address cause) = Tells 2 (first_line (faults.Listen address cause))
-  LeavesFault faults.Memory = Prints 5 (line_of outcomes.Memory)
-
-  -- the fault's object, with some cause, is written to standard output, and its line to standard error, unless that
-  -- fails. Or standard output breaks off
-  abbrev pub LeavesObject : JobFault → Type 0
-  LeavesObject fault = (cause : Text) × (((status ≡ status_of_fault fault) × Appends out out_new (fault_object fault cause)
-      × ((told : Text) × StartsWith told (first_line fault) × Takes errors errors_new told))
-      ⊎ ((status ≡ 2) × BreaksOff out out_new (fault_object fault cause)))
-
-  -- the outputs and the status of a job with a report that this fault stops, with or without a JSON object
-  abbrev pub LeavesAs : Bool → JobFault → Type 0
-  LeavesAs true fault = LeavesObject fault
-  LeavesAs false fault = LeavesFault fault
-
-  -- the text of the report is written to standard output
-  abbrev pub PrintsReport : Report → Type 0
-  PrintsReport report = ((status ≡ status_of report.outcome) × Appends out out_new (printed_of report)
-      × IsTold errors errors_new report.explanation report.outcome)
-      ⊎ ((status ≡ 2) × BreaksOff out out_new (printed_of report))
-
-  -- the outputs and the status for this result of a job, as JSON or in words
-  abbrev pub Leaves : Bool → Result Report JobFault → Type 0
-  Leaves json (Ok report) = PrintsReport report
-  Leaves json (Err fault) = LeavesAs json fault
-
--- the first line on standard error for an input line that is no event
-abbrev pub bad_line : ℕ → Text
-bad_line number = codes "bad line " ++ (decimal number ++ (10 ∷ []))
-
--- a text that begins with the line for a bad line is written to standard error, with status 6. Or memory ran out, with
--- status 5
-abbrev pub TellsLine : Option Text → Option Text → ℕ → ℕ → Type 0
-TellsLine errors errors_new status number = ((status ≡ 5) × (errors_new ≡ errors))
-    ⊎ ((status ≡ 6) × ((told : Text) × StartsWith told (bad_line number) × Takes errors errors_new told))
-
--- standard error and the status of a replay or a batch that ended before its input did. The answers until then are on standard
--- output
-abbrev pub LeavesReplay : Option Text → Option Text → ℕ → ReplayFault → Type 0
-LeavesReplay errors errors_new status (replay_faults.Line number cause) = TellsLine errors errors_new status number
-LeavesReplay errors errors_new status (replay_faults.Input cause) = (status ≡ 5) ⊎ (status ≡ 2)
-LeavesReplay errors errors_new status (replay_faults.Output cause) = status ≡ 2
-LeavesReplay errors errors_new status replay_faults.Memory = (status ≡ 5) × (errors_new ≡ errors)
-
--- parameters: a source of files, an input, the outputs before and after a run, and its status
-module _ (holds : Text → Text → Type 0) (lacks : (Text × IoError) → Type 0) (input : Option Text)
-    (out out_new errors errors_new : Option Text) (status : ℕ) where
-  -- the job has this result, which is printed; or memory ran out
-  pub data EndsReport (job : Job) : Type 0 where
-    ended : (found : Result Report JobFault) → ComesTo holds lacks input job found
-        → Leaves out out_new errors errors_new status (is_json job) found → EndsReport job
-    memory : LeavesFault out out_new errors errors_new status faults.Memory → EndsReport job
-
-  -- parameters of a batch: its words
-  module _ (words : BatchWords) where
-    -- the heads are judged by this policy, which is admitted, and lines without facts have these
-    pub record IsBasis (policy : Text) (facts : Facts) : Type 0 where
-      pub read : holds (string_bytes words.policy) policy
-      pub conn : IsConnOf holds lacks (option_map string_bytes words.facts) facts
-      pub admissible : Admissible policy largest words.budget
-
-    -- why no line is read: the policy is refused, memory ran out, or a fault stops the job
-    abbrev pub IsNoBatch : Result Report JobFault → Type 0
-    IsNoBatch (Ok report) = (report.json ≡ words.json) × ((report.outcome ≡ outcomes.Memory)
-        ⊎ ((policy : Text) × (reason : Refusal) × holds (string_bytes words.policy) policy
-        × IsRefusedFor policy words.budget reason × (report.outcome ≡ outcomes.Refused reason)))
-    IsNoBatch (Err fault) =
-        StopsBy holds lacks (string_bytes words.policy) (option_map string_bytes words.facts) words.budget input fault
-
-    -- every line was answered; or a fault ended the batch after some lines, or before the first; or memory ran out
-    pub data EndsBatch : Type 0 where
-      whole : (policy : Text) (facts : Facts) (input_new : Option Text) → IsBasis policy facts
-          → IsBatch policy words.budget facts words.explain input out input_new out_new → status ≡ 0
-          → errors_new ≡ errors → EndsBatch
-      short : (policy : Text) (facts : Facts) (fault : ReplayFault) → IsBasis policy facts
-          → IsCutShort policy words.budget facts words.explain input out fault out_new
-          → LeavesReplay errors errors_new status fault → EndsBatch
-      none : (found : Result Report JobFault) → IsNoBatch found
-          → Leaves out out_new errors errors_new status words.json found → EndsBatch
-      memory : LeavesFault out out_new errors errors_new status faults.Memory → EndsBatch
-
--- the file at this path holds a configuration, and its meaning is printed; or the fault is printed, or memory ran out
 module _ (holds : Text → Text → Type 0) (lacks : (Text × IoError) → Type 0)
     (out out_new errors errors_new : Option Text) (status : ℕ) (path : Text) where
-  pub data EndsConfig : Type 0 where
-    meant : (c : ConfigValue) (text : Text) → IsConfigOf holds lacks path c
-        → Prints out out_new errors errors_new status 0 text → EndsConfig
-    lacking : (fault : JobFault) → LacksConfig holds lacks path fault
-        → LeavesFault out out_new errors errors_new status fault → EndsConfig
-    memory : LeavesFault out out_new errors errors_new status faults.Memory → EndsConfig
-
-  -- the file at this path holds a configuration, and the input is replayed with it, up to its end or to a fault
-  module _ (input : Option Text) where
-    pub data EndsReplay : Type 0 where
-      whole : (c : ConfigValue) (input_new : Option Text) → IsConfigOf holds lacks path c
-          → IsReplayed c input out input_new out_new → status ≡ 0 → errors_new ≡ errors → EndsReplay
-      stopped : (c : ConfigValue) (input_new : Option Text) (fault : ReplayFault) → IsConfigOf holds lacks path c
-          → IsStopped c input out fault input_new out_new
-          → LeavesReplay errors errors_new status fault → EndsReplay
-      lacking : (fault : JobFault) → LacksConfig holds lacks path fault
-          → LeavesFault out out_new errors errors_new status fault → EndsReplay
-      memory : LeavesFault out out_new errors errors_new status faults.Memory → EndsReplay
-
--- the fault says that the program cannot listen at this address
-abbrev pub CannotListen : Text → JobFault → Type 0
-CannotListen address (faults.Listen name cause) = string_bytes name ≡ address
-CannotListen address _ = ⊥
-
--- the fault says that the log at this path cannot be opened
-abbrev pub CannotLog : Option Text → JobFault → Type 0
-CannotLog log (faults.Log path cause) = log ≡ Some (string_bytes path)
-CannotLog log _ = ⊥
-
--- one stream of the control plane was served, or none was accepted. `Accepts` says which is accepted, or that none is
-abbrev pub ServesOneStream : (Option Link → Type 0) → ControlValue → ControlValue → Type 0
-ServesOneStream Accepts old new = (Accepts None × (new ≡ old))
-    ⊎ ((link : Link) × Accepts (Some link)
-    × ((input_new out_new : Option Text) × ServesStream old new link.0 input_new link.1 out_new))
-
--- the line for the last acknowledged number
-abbrev pub acknowledged_line : Option ℕ → Text
-acknowledged_line (Some number) = codes "acknowledged " ++ decimal number ++ 10 ∷ []
-acknowledged_line None = codes "acknowledged none" ++ 10 ∷ []
-
-module _ (holds : Text → Text → Type 0) (lacks : (Text × IoError) → Type 0) where
-  -- the snapshot of the file at this path: one filter, with this name
-  abbrev pub IsSnapshotOf : Text → Text → List ResourceValue → Type 0
-  IsSnapshotOf name path snapshot =
-      (bytes : Text) × holds path bytes × (snapshot ≡ record { name = name; filter = bytes } ∷ [])
-
-  -- the fault says that one of the files cannot be read; those before it can
-  abbrev pub LacksFile : List Text → JobFault → Type 0
-  LacksFile [] fault = ⊥
-  LacksFile (path ∷ paths) fault = IsUnread holds lacks path fault
-      ⊎ (((bytes : Text) × holds path bytes) × LacksFile paths fault)
-
-  -- the snapshots are those of the files on the command line
-  abbrev pub AreSnapshotsOf : ControlWords → List (List ResourceValue) → Type 0
-  AreSnapshotsOf words snapshots =
-      AllZip (IsSnapshotOf (string_bytes words.name)) (map string_bytes words.files.items) snapshots
-
-  -- the fault that stops a control plane. It reads the files first, then opens the log, and then listens
-  pub data StopsControl (words : ControlWords) (fault : JobFault) : Type 0 where
-    no_file : LacksFile (map string_bytes words.files.items) fault → StopsControl words fault
-    no_log : (snapshots : List (List ResourceValue)) → AreSnapshotsOf words snapshots
-        → CannotLog (option_map string_bytes words.log) fault → StopsControl words fault
-    no_listener : (snapshots : List (List ResourceValue)) → AreSnapshotsOf words snapshots
-        → CannotListen (string_bytes words.listen) fault → StopsControl words fault
-
-  -- the facts file cannot be read or holds no facts, or the facts are outside the limits
-  pub data LacksFit (facts_path : Option Text) (limits : LimitsValue) (fault : JobFault) : Type 0 where
-    no_facts : (path : Text) → facts_path ≡ Some path
-        → IsUnread holds lacks path fault ⊎ HasBadFacts holds lacks path fault → LacksFit facts_path limits fault
-    unfit : (facts : Facts) → IsConnOf holds lacks facts_path facts → ¬ FactsInLimits facts limits
-        → fault ≡ faults.Facts → LacksFit facts_path limits fault
-
-  -- the configuration and the facts on the command line; the facts are within the configuration's limits
-  pub record IsSetUp (words : ProxyWords) (c : ConfigValue) (facts : Facts) : Type 0 where
-    pub config : IsConfigOf holds lacks (string_bytes words.config) c
-    pub conn : IsConnOf holds lacks (option_map string_bytes words.facts) facts
-    pub fits : FactsInLimits facts c.limits
-
-  -- the fault that stops a proxy. It reads the configuration first, then the facts, then opens the log, and then
-  -- listens
-  pub data StopsProxy (words : ProxyWords) (fault : JobFault) : Type 0 where
-    no_config : LacksConfig holds lacks (string_bytes words.config) fault → StopsProxy words fault
-    no_facts : (c : ConfigValue) → IsConfigOf holds lacks (string_bytes words.config) c
-        → LacksFit (option_map string_bytes words.facts) c.limits fault → StopsProxy words fault
-    no_log : (c : ConfigValue) (facts : Facts) → IsSetUp words c facts
-        → CannotLog (option_map string_bytes words.log) fault → StopsProxy words fault
-    no_listener : (c : ConfigValue) (facts : Facts) → IsSetUp words c facts
-        → CannotListen (string_bytes words.listen) fault → StopsProxy words fault
-
--- parameters: a source of files, and sockets. `connects` says which stream connecting to an address gives, or that it
--- gives none; `accepts` the same of a listener at an address
-module _ (holds : Text → Text → Type 0) (lacks : (Text × IoError) → Type 0)
-    (connects accepts : Text → Option Link → Type 0) where
-  -- a control plane, run as the command line says, served one stream, if one was accepted, and this number was the last
-  -- acknowledged
-  pub record IsServed (words : ControlWords) (acknowledged : Option ℕ) : Type 0 where
-    pub snapshots : List (List ResourceValue)
-    pub read : AreSnapshotsOf holds lacks words snapshots
-    pub after : ControlValue
-    pub serves : ServesOneStream (accepts (string_bytes words.listen)) (new_control snapshots) after
-    pub number : acknowledged ≡ after.served.acknowledged
-
-  -- a proxy of this configuration and these facts ran its rounds; before them the update stream was down
-  pub record IsProxied (words : ProxyWords) : Type 0 where
-    pub c : ConfigValue
-    pub facts : Facts
-    pub set_up : IsSetUp holds lacks words c facts
-    pub after : ProxyValue
-    pub link : Option Link
-    pub rounds : Rounds (connects (string_bytes words.control)) (accepts (string_bytes words.listen)) facts words.rounds
-        (new_proxy c) after None link
-
-  module _ (out out_new errors errors_new : Option Text) (status : ℕ) where
-    -- the end of a control plane: it prints the last acknowledged number, or the fault that stopped it
-    pub data EndsControl (words : ControlWords) : Type 0 where
-      served : (acknowledged : Option ℕ) → IsServed words acknowledged
-          → Prints out out_new errors errors_new status 0 (acknowledged_line acknowledged) → EndsControl words
-      stopped : (fault : JobFault) → StopsControl holds lacks words fault → LeavesFault out out_new errors errors_new status fault
-          → EndsControl words
-      memory : LeavesFault out out_new errors errors_new status faults.Memory → EndsControl words
-
-    -- the end of a proxy: it prints nothing, or the fault that stopped it
-    pub data EndsProxy (words : ProxyWords) : Type 0 where
-      served : IsProxied words → status ≡ 0 → out_new ≡ out → errors_new ≡ errors → EndsProxy words
-      stopped : (fault : JobFault) → StopsProxy holds lacks words fault → LeavesFault out out_new errors errors_new status fault
-          → EndsProxy words
-      memory : LeavesFault out out_new errors errors_new status faults.Memory → EndsProxy words
+  -- the file at this path holds a text, and its settings are printed, if that is asked for. Otherwise a server ran by
+  -- them, or could not, and standard output stays. Or the fault is printed, or memory ran out
+  pub data EndsServe (check : Bool) : Type 0 where
+    meant : (settings text : Text) → holds path settings → IsTrue check → Prints out out_new errors errors_new status 0 text
+        → EndsServe check
+    served : (settings : Text) → holds path settings → ¬ IsTrue check → EndsHost out out_new errors errors_new status
+        → EndsServe check
+    lacking : (fault : JobFault) → LacksSettings holds lacks path fault
+        → LeavesFault out out_new errors errors_new status fault → EndsServe check
+    memory : LeavesFault out out_new errors errors_new status faults.Memory → EndsServe check
 
 module _ (holds : Text → Text → Type 0) (lacks : (Text × IoError) → Type 0)
     (connects accepts : Text → Option Link → Type 0) (input : Option Text)
@@ -433,8 +46,10 @@ module _ (holds : Text → Text → Type 0) (lacks : (Text × IoError) → Type 
   EndsJob (Batch words) = EndsBatch holds lacks input out out_new errors errors_new status words
   EndsJob (CheckConfig config) =
       EndsConfig holds lacks out out_new errors errors_new status (string_bytes config)
-  EndsJob (Replay config) =
-      EndsReplay holds lacks out out_new errors errors_new status (string_bytes config) input
+  EndsJob (Replay words) =
+      EndsReplay holds lacks out out_new errors errors_new status (string_bytes words.config) words.connection input
+  EndsJob (Serve words) =
+      EndsServe holds lacks out out_new errors errors_new status (string_bytes words.config) words.check
   EndsJob (Control words) = EndsControl holds lacks connects accepts out out_new errors errors_new status words
   EndsJob (Proxy words) = EndsProxy holds lacks connects accepts out out_new errors errors_new status words
 

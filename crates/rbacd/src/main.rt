@@ -1,54 +1,16 @@
 //! Judges requests by a role-based access policy.
 #![tactic(auto)]
 
-use ending::MISTAKE;
-use outcome::Outcome;
+use program_jobs::MISTAKE;
+use rbac_judge::Outcome;
 use run::run;
 use std::env::{Env, FillError};
 use std::io::{ErrorKind, Write};
 use std::process::ExitCode;
 use std::{env, io};
 
-mod bad_facts;
-mod bad_heads;
-pub mod batch;
-mod batch_job;
-mod commands;
-pub mod configuration;
-mod ending;
-mod error_place;
-pub mod explain;
-pub mod facts;
-mod fault_json;
-mod files;
-mod head_lines;
-mod help;
-mod input;
-pub mod job_fault;
-pub mod json;
-pub mod judge;
-pub mod lines;
-pub mod log;
-mod log_lines;
-mod meanings;
-mod members;
-mod notes;
-pub mod outcome;
-mod output;
-pub mod pumps;
-mod reading;
-mod recorded;
-mod refused_part;
-pub mod replay;
-mod reporting;
-pub mod rounds;
 pub mod run;
-mod serve;
-mod settings;
-mod shown;
-pub mod sockets;
-mod telling;
-pub mod words;
+pub mod server;
 
 /// The words of the command line; the first is the program's own name.
 fn words_of<R: Env + AllocGlobal>(rt: &R) -> io::Result<Vec<String>> {

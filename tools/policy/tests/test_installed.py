@@ -144,7 +144,7 @@ class Generated(Room):
         ran = subprocess.run([TOOL / "install", prefix, self.room / "rbacd"], capture_output=True, text=True)
         self.assertEqual((ran.returncode, ran.stderr), (0, ""))
         page = (prefix / "share/man/man1/rbacd.1").read_text()
-        for name in ("check", "judge", "check-config", "replay", "control", "proxy"):
+        for name in ("check", "judge", "check-config", "replay", "control", "proxy", "serve"):
             self.assertIn(f".SH rbacd {name}\n", page)
         self.assertIn("\\-\\-batch", page)
         if shutil.which("man"):

@@ -1,12 +1,15 @@
 """Notes on filters that are admitted: their places and words."""
+import re
 import unittest
 
 from policies import lint
+from policies.engine import Engine, Request
 from policies.lint.names import MEANINGS
+from policies.lint.of_paths import Paths, spellings
 from policies.places import Source
 from policies.reading import contents
 from policies.requests import request_log
-from support import POLICY, condition, told
+from support import ENGINE, NO_ENGINE, POLICY, condition, encoded, told
 from test_outputs import Room
 
 # A condition's text, and for each note its column in the text, counted from 1, and words.
@@ -62,7 +65,7 @@ class Notes(unittest.TestCase):
             ('request.useragent.contains("bot")', ["a request without the header user-agent makes this an error"]),
             ('"user-agent" in request.headers && request.useragent.contains("bot")', []),
             ('request.id == "" || request.referer == ""', ["the header x-request-id makes", "the header referer makes"]),
-            ('request.path == "/"', []),
+            ('request.query == "/"', []),
         ]:
             with self.subTest(condition_text):
                 found = sorted(notes_of(text % f"'{condition_text}'"))
@@ -133,6 +136,23 @@ RULES = [
     ("DENY", "{url_path: {path: {prefix: /admin}}}, {url_path: {path: {exact: /b}}}", ["other-paths", "other-paths"]),
     ("DENY", "{not_rule: {url_path: {path: {prefix: /admin}}}}", []),
     ("DENY", "{url_path: {path: {suffix: /admin}}}", []),
+    ("DENY", "{url_path: {path: {contains: /admin}}}", []),
+    ("DENY", "{url_path: {path: {contains: /a/b}}}", ["other-paths"]),
+    ("DENY", "{url_path: {path: {exact: /}}}", ["other-paths"]),
+    ("DENY", "{url_path: {path: {prefix: /}}}", []),
+    # what denies the other spellings too, or everything
+    ("DENY", "{any: true}, {url_path: {path: {exact: /b}}}", ["needless-rule"]),
+    ("DENY", "{url_path: {path: {exact: /b}}}, {not_rule: {url_path: {path: {exact: /c}}}}", []),
+    ("DENY", "{url_path: {path: {exact: /b}}}, {url_path: {path: {contains: //}}}", ["other-paths"]),
+    ("DENY", "{url_path: {path: {exact: /b}}}, {url_path: {path: {contains: //}}}, {url_path: {path: {contains: /.}}}", []),
+    ("DENY", "{and_rules: {rules: [{url_path: {path: {exact: /b}}}, {destination_port: 1}]}}", ["other-paths"]),
+    ("DENY", "{and_rules: {rules: [{url_path: {path: {exact: /b}}}, {not_rule: {any: true}}]}}", []),
+    ("DENY", "{or_rules: {rules: [{url_path: {path: {exact: /b}}}, {header: {name: ':path', prefix_match: /}}]}}", []),
+    # a path that is allowed anyway, or never
+    ("ALLOW", "{not_rule: {url_path: {path: {exact: /b}}}}, {header: {name: ':path', prefix_match: /b}}", []),
+    ("ALLOW", "{and_rules: {rules: [{not_rule: {url_path: {path: {exact: /b}}}}, {url_path: {path: {prefix: /b}}}]}}", []),
+    ("ALLOW", "{and_rules: {rules: [{not_rule: {url_path: {path: {exact: /a/b}}}}, {url_path: {path: {prefix: /a/}}}]}}", ["other-paths"]),
+    ("ALLOW", "{url_path: {path: {exact: /admin}}}", []),
 ]
 # The action, a condition, and the names of its notes.
 CONDITIONS = [
@@ -141,6 +161,15 @@ CONDITIONS = [
     ("ALLOW", "request.url_path != '/admin' && true", ["other-paths"]),
     ("ALLOW", "!(request.url_path != '/admin')", []),
     ("DENY", "true && (false || request.url_path == '/admin')", ["other-paths"]),
+    ("DENY", "request.url_path in ['/admin', '/b']", ["other-paths"]),
+    ("ALLOW", "!(request.url_path in ['/admin', '/b'])", ["other-paths"]),
+    ("ALLOW", "request.url_path in ['/admin', '/b']", []),
+    ("DENY", "request.path.endsWith('/admin')", []),
+    ("DENY", "request.path.startsWith('/')", []),
+    ("DENY", "request.path == '/admin' || request.path.contains('//') || request.path.contains('/.')", []),
+    ("DENY", "request.path == '/admin' || true", []),
+    ("DENY", "request.path == '/admin' && false", []),
+    ("ALLOW", "request.path != '/admin' && request.path in ['/a', '/b']", []),
     ("ALLOW", "request.method == 'get'", ["lower-case-method"]),
     ("ALLOW", "request.method in ['GET', 'post']", ["lower-case-method"]),
     ("ALLOW", "request.method == 'list' || 'get' == request.path", []),
@@ -188,6 +217,101 @@ class Names(unittest.TestCase):
     def test_each_name_is_tested(self):
         tested = {name for _, _, found in RULES + CONDITIONS for name in found} | {"never-first", "unused-ignore", "upper-case-header"}
         self.assertEqual(tested, set(MEANINGS))
+
+
+class OtherPaths(unittest.TestCase):
+    """The spellings that notes on paths name."""
+
+    def words(self, *permissions, action="DENY"):
+        """The words of the notes on a filter with a policy for each permission."""
+        one = "p%d: {permissions: [%s], principals: [{any: true}]}"
+        policies = ", ".join(one % pair for pair in enumerate(permissions))
+        return [words for _, words in sorted(notes_of(f"rules: {{action: {action}, policies: {{{policies}}}}}"))]
+
+    def test_spellings(self):
+        for test, other, encoded in [
+            ("exact: /admin", "`//admin` passes, and an application may read it as `/admin`", "`/%61dmin` passes also then"),
+            ("prefix: /admin/", "`//admin/` passes, and an application may read it as `/admin/`", "`/%61dmin/` passes also then"),
+            ("contains: /a/b", "`/a//b` passes, and an application may read it as `/a/b`", "`/%61/b` passes also then"),
+            ("exact: /", "`//` passes, and an application may read it as `/`", None),
+        ]:
+            with self.subTest(test):
+                [words] = self.words("{url_path: {path: {%s}}}" % test)
+                self.assertIn(other, words)
+                self.assertIn('set `"paths": "strict"` in the server\'s settings', words)
+                self.assertEqual("also then" in words, encoded is not None)
+                self.assertIn(encoded or "", words)
+
+    def test_what_is_denied_is_not_named(self):
+        """The first spelling that no policy of the filter denies."""
+        admin, double, encoded = (
+            "{url_path: {path: {%s}}}" % test for test in ("exact: /admin", "contains: //", "contains: '%61'")
+        )
+        [words] = self.words(admin, double)
+        self.assertIn("`/x/../admin` passes", words)
+        [words] = self.words(admin, encoded)
+        self.assertNotIn("also then", words)
+        self.assertEqual(self.words(admin, double, "{url_path: {path: {contains: /.}}}"), [])
+
+    def test_in_a_large_filter(self):
+        """A policy that denies odd spellings counts also among many policies."""
+        many = ["{url_path: {path: {exact: /a%d}}}" % number for number in range(100)]
+        self.assertEqual(len(self.words(*many)), 100)
+        self.assertEqual(self.words(*many, "{url_path: {path: {contains: //}}}", "{url_path: {path: {contains: /.}}}"), [])
+
+    def test_several_policies(self):
+        """A policy that needs more than a path denies no spelling for certain, and one that allows all paths denies none."""
+        more = "{and_rules: {rules: [{url_path: {path: {prefix: /}}}, {destination_port: 1}]}}"
+        self.assertEqual(len(self.words("{url_path: {path: {exact: /admin}}}", more)), 1)
+        negated = "{not_rule: {url_path: {path: {exact: /admin}}}}"
+        self.assertEqual(len(self.words(negated, action="ALLOW")), 1)
+        self.assertEqual(self.words(negated, "{url_path: {path: {prefix: /}}}", action="ALLOW"), [])
+
+
+@unittest.skipUnless(ENGINE.exists(), NO_ENGINE)
+class PathsByTheEngine(unittest.TestCase):
+    """What the notes say of paths is what the engine decides."""
+
+    FACTS = {"destination.port": 1}
+    PROBES = ["/", "/b", "/admin", "/a/b", "/c", "/%61dmin", "/public"]
+
+    def rows(self):
+        """Each filter of the tables above that has a test of a path, as YAML."""
+        for action, rule, _ in RULES:
+            yield RULE % (action, rule)
+        for action, text, _ in CONDITIONS:
+            yield condition(text).replace("rules:", f"rules:\n  action: {action}")
+
+    def verdicts(self, asked, text, paths):
+        """Whether the engine denies each of some paths."""
+        requests = [Request(f"GET {path} HTTP/1.1\r\nHost: h\r\n\r\n".encode(), self.FACTS) for path in paths]
+        answers = asked.decisions(encoded(text), requests, 1_000_000)
+        return [answer["verdict"] == "deny" for answer in answers]
+
+    def test_notes(self):
+        """The path that a note names is denied, and its other spelling passes."""
+        named = re.compile("^`(?P<other>[^`]+)` passes, and an application may read it as `(?P<path>[^`]+)`")
+        with Engine(ENGINE) as asked:
+            found = [(text, match) for text in self.rows() for _, words in notes_of(text) if (match := named.match(words))]
+            for text, match in found:
+                with self.subTest(text):
+                    self.assertEqual(self.verdicts(asked, text, [match["path"], match["other"]]), [True, False])
+        self.assertGreater(len(found), 10)
+
+    def test_paths(self):
+        """Where a path alone decides, the engine decides the same."""
+        paths = [other for path in self.PROBES for other in (path, *spellings(path))]
+        with Engine(ENGINE) as asked:
+            known = 0
+            for text in filter(lambda each: "path" in each, self.rows()):
+                [held] = contents(Source("f.yaml", text.encode())).filters
+                rules = held.message.get("rules")
+                said = [Paths([policy for _, policy in rules.get("policies")], rules.scalar("action") == 1).denies(path) for path in paths]
+                for path, one, verdict in zip(paths, said, self.verdicts(asked, text, paths)):
+                    with self.subTest(path=path, text=text):
+                        self.assertIn(one, (None, verdict))
+                known += sum(one is not None for one in said)
+        self.assertGreater(known, 500)
 
 
 SILENT = """rules:

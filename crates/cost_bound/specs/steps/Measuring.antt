@@ -10,8 +10,8 @@ use Rattle.cel_overload.specs.declared.overload.Overload.TheVariants as overload
 use Rattle.cel_types.specs.Elaborated.{TypedTree, TypedTrees}
 use Rattle.cel_types.specs.View.{TypedParts}
 use Rattle.cel_value.specs.Types.{ValueType}
-use Rattle.cost_bound.specs.Sizes.{Size}
-use Rattle.cost_bound.specs.Costs.{charge_at, cost_of, costs_of, size_of, sizes_of}
+use Rattle.cel_costs.specs.Sizes.{Size}
+use Rattle.cel_costs.specs.Costs.{charge_at, cost_of, costs_of, size_of, sizes_of}
 
 -- the refusal of a cost above the budget
 abbrev pub CostsMore : (cost left : ℕ) → Refusal → Type 0

@@ -6,20 +6,24 @@ use Rattle.cel_types.specs.Elaborated.{TypedTree, typed_constant, typed_local, t
 use Rattle.cel_types.specs.Names.{variable_count}
 use Rattle.cel_types.specs.TypedMeaning.{local_at}
 use Rattle.cel_types.specs.declared.typed.Variables.{Variables}
-use Rattle.cost_bound.specs.Costs.{cost_of, known, size_of}
-use Rattle.cost_bound.specs.Sizes.{Size}
+use Rattle.cel_costs.specs.Costs.{cost_of, known, size_of}
+use Rattle.cel_costs.specs.Sizes.{Size}
 use Rattle.cost_bound.specs.steps.Numbers.{capped}
 use Rattle.cost_bound.specs.steps.SizeView.{size_view}
+use Rattle.cost_bound.specs.steps.Formulas.{FormulaTree, IsForm, ShapeTree, formula_view, shape_view}
+use Rattle.cost_bound.specs.declared.form.Form.{Form}
 use Rattle.cost_bound.specs.declared.memo.Memo.{Memo, fold-Memo}
 use Rattle.cost_bound.specs.declared.memo.Memo.TheOpen.{Memo-F}
 use Rattle.cost_bound.specs.declared.steady.Around.{Around}
 
 mutual
-  -- a memo: nothing; the size and the cost; a number that the cost exceeds; or memos of the parts
+  -- a memo: nothing; the size and the cost; a number that the cost exceeds; a formula of the cost and the shape of
+  -- the size; or memos of the parts
   pub data MemoTree : Type 0 where
     nothing_known : MemoTree
     known_as : (size : Size) → (cost : ℕ) → MemoTree
     more_than : (cost : ℕ) → MemoTree
+    formed : FormulaTree → ShapeTree → MemoTree
     parts_known : MemoTrees → MemoTree
 
   -- memos of parts, in order
@@ -37,6 +41,7 @@ abbrev pub memo_level : Memo-F MemoTree → MemoTree
 memo_level Memo-F.Unknown = nothing_known
 memo_level (Memo-F.Known s c) = known_as (size_view s) c
 memo_level (Memo-F.Costly n) = more_than n
+memo_level (Memo-F.Formed f) = formed (formula_view f.value.formula.value) (shape_view f.value.shape)
 memo_level (Memo-F.Parts ms) = parts_known (memos_of ms.items)
 
 -- the memo that a `Memo` means
@@ -63,14 +68,24 @@ abbrev pub part_at : ℕ → MemoTree → MemoTree
 part_at i nothing_known = nothing_known
 part_at i (known_as s c) = nothing_known
 part_at i (more_than n) = nothing_known
+part_at i (formed p sh) = nothing_known
 part_at i (parts_known ms) = memo_at i ms
 
--- what the memo states of the expression itself is true of this size and cost
-abbrev pub Says : MemoTree → Size → ℕ → Type 0
-Says nothing_known size cost = Unit {0}
-Says (known_as s c) size cost = (s ≡ size) × (c ≡ cost)
-Says (more_than n) size cost = n < cost
-Says (parts_known ms) size cost = Unit {0}
+-- a form gives the size and the cost of an expression, for all sizes of the locals
+abbrev pub Forms : Form → TypedTree → LimitsValue → Type 0
+Forms f e l = IsForm (formula_view f.formula.value) (shape_view f.shape) e l
+
+-- the memo of the part at a place states this form
+abbrev pub FormAt : MemoTree → ℕ → Form → Type 0
+FormAt m i f = part_at i m ≡ formed (formula_view f.formula.value) (shape_view f.shape)
+
+-- what the memo states of the expression itself is true
+abbrev pub Says : MemoTree → TypedTree → LimitsValue → List Size → Type 0
+Says nothing_known e l sizes = Unit {0}
+Says (known_as s c) e l sizes = (s ≡ size_of e l sizes) × (c ≡ cost_of e l sizes)
+Says (more_than n) e l sizes = n < cost_of e l sizes
+Says (formed p sh) e l sizes = IsForm p sh e l
+Says (parts_known ms) e l sizes = Unit {0}
 
 -- the memo states this size and cost, or a number that the cost exceeds
 abbrev pub IsTold : MemoTree → Size → ℕ → Type 0
@@ -78,7 +93,7 @@ IsTold m size cost = (m ≡ known_as size cost) ⊎ ((n : ℕ) × (m ≡ more_th
 
 -- what the memo states of the expression itself is true, and `More` is true
 abbrev pub SaysAnd : MemoTree → TypedTree → LimitsValue → List Size → (More : Type 0) → Type 0
-SaysAnd m e l sizes More = Says m (size_of e l sizes) (cost_of e l sizes) × More
+SaysAnd m e l sizes More = Says m e l sizes × More
 
 abbrev mutual
   -- what a memo states of an expression's parts is true. For a loop's condition, step and result it is
@@ -116,6 +131,10 @@ abbrev mutual
 -- all that a memo states of an expression and of its parts is true
 abbrev pub MemoHolds : MemoTree → TypedTree → LimitsValue → List Size → Type 0
 MemoHolds m e l sizes = SaysAnd m e l sizes (MemoHoldsInside m e l sizes)
+
+-- all that a memo states is true for all sizes of the locals
+abbrev pub HoldsForAll : MemoTree → TypedTree → LimitsValue → Type 0
+HoldsForAll m e l = (sizes : List Size) → MemoHolds m e l sizes
 
 -- a local measures the same in each turn of a loop: one of the `around` locals outside of the loop, or one
 -- of its variables. These come after the accumulator

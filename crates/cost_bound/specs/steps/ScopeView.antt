@@ -1,6 +1,6 @@
 -- The locals in scope that values of the code mean, the innermost first.
 use Rattle.std.specs.Prelude.{ℕ, ◌≡◌, List, [], ◌∷◌, length}
-use Rattle.cost_bound.specs.Sizes.{Size}
+use Rattle.cel_costs.specs.Sizes.{Size}
 use Rattle.cost_bound.specs.steps.Numbers.{capped}
 use Rattle.cost_bound.specs.steps.SizeView.{size_view}
 use Rattle.cost_bound.specs.declared.scope.Scope.{Scope, fold-Scope}

@@ -1,6 +1,8 @@
 -- The sizes that values of the code mean.
-use Rattle.std.specs.Prelude.{List, [], ◌∷◌, map, Option, Some, None}
-use Rattle.cost_bound.specs.Sizes.{Size, Flat, Text, Many, Table}
+use Rattle.std.specs.Prelude.{◌≡◌, List, [], ◌∷◌, map, Option, Some, None}
+use Rattle.cel_costs.specs.Sizes.{Size, Flat, Text, Many, Table, join}
+use Rattle.cost_bound.specs.declared.size.Wider.{Wider}
+use Rattle.cost_bound.specs.declared.size.Wider.TheVariants as widers
 use Rattle.cost_bound.specs.declared.size.ValueSize.{ValueSize, fold-ValueSize}
 use Rattle.cost_bound.specs.declared.size.ValueSize.TheOpen.{ValueSize-F}
 use Rattle.cost_bound.specs.declared.variables.VariableSizes.{VariableSizes}
@@ -28,3 +30,10 @@ key_view (Some k) = size_view k ∷ []
 -- the sizes of a loop's variables, the innermost first
 abbrev pub variables_view : VariableSizes → List Size
 variables_view v = size_view v.value ∷ key_view v.key
+
+-- which of two sizes has room for both; if neither has, their join
+abbrev pub IsWider : Wider → Size → Size → Type 0
+IsWider widers.Both s t = (join s t ≡ s) × (join s t ≡ t)
+IsWider widers.Left s t = join s t ≡ s
+IsWider widers.Right s t = join s t ≡ t
+IsWider (widers.Neither u) s t = size_view u ≡ join s t

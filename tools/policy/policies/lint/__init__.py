@@ -4,6 +4,7 @@ from typing import List
 from ..findings import NOTE, Finding
 from ..messages import Message
 from .of_conditions import remarks_of
+from .of_paths import Paths
 from .of_policies import never_first
 from .of_rules import rule_notes
 
@@ -25,9 +26,10 @@ def notes(message: Message, encoding) -> List[Finding]:
     is_deny = rules.scalar("action") == DENY and ("rules", "action") not in wrong
     left_out = {path[2] for path in wrong if path[:2] == POLICIES}
     policies = {name: policy for name, policy in rules.get("policies") or [] if name not in left_out}
-    found = [one for name, policy in policies.items() for one in rule_notes(policy, (*POLICIES, name), is_deny)]
+    paths = Paths(policies.values(), is_deny)
+    found = [one for name, policy in policies.items() for one in rule_notes(policy, (*POLICIES, name), paths)]
     found += [note._replace(path=(*POLICIES, name)) for name, note in never_first(policies)]
     found = [one if encoding is None else one._replace(place=encoding.place_of(one.path)) for one in found]
     for name, policy in policies.items():
-        found += remarks_of(policy, is_deny, (*POLICIES, name), encoding)
+        found += remarks_of(policy, paths, (*POLICIES, name), encoding)
     return found

@@ -22,7 +22,7 @@ MEANINGS = {
     LOWER_CASE: "a method in lower case",
     NEVER: "a text, a name or a range that no request has",
     NEEDLESS: "a rule beside one that always matches",
-    OTHER_PATHS: "a path that is denied, while other spellings of it pass",
+    OTHER_PATHS: "a path that is denied, while another spelling of it passes, as the note says",
     NEVER_FIRST: "a policy that an earlier one goes before, whatever it matches",
     MISSING: "a condition of DENY that reads what may be missing, which lets the request pass",
     UNUSED: "a comment that silences nothing",

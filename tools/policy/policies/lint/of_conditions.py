@@ -9,14 +9,13 @@ from ..conditions_typing import condition_of
 from ..findings import NOTE, Finding
 from ..messages import Message
 from ..placing import node_places
-from .names import HOST_HEADER, LOWER_CASE, MISSING, OTHER_PATHS, UPPER_CASE, Lint
-from .of_rules import METHODS, OTHERS_PASS
+from .names import HOST_HEADER, LOWER_CASE, MISSING, UPPER_CASE, Lint
+from .of_paths import Paths, path_test
+from .of_rules import METHODS
 
 HOST, AUTHORITY = "host", ":authority"
 READ = ("attribute", "index", "select")
 COMPARISONS = ("_==_", "_!=_", "contains", "startsWith", "endsWith")
-PATHS = ("request.path", "request.url_path")
-PATH_TESTS = ("startsWith", "contains")
 # Attributes that each request has; the others are facts of the connection, or headers.
 ALWAYS = frozenset(
     "request.path request.url_path request.query request.method request.protocol request.scheme request.headers".split()
@@ -25,14 +24,15 @@ ALWAYS = frozenset(
 Remark = Tuple[Node, Lint]
 
 
-def remarks_of(policy: Message, is_deny: bool, path: tuple, encoding) -> List[Finding]:
+def remarks_of(policy: Message, paths: Paths, path: tuple, encoding) -> List[Finding]:
     """The notes on the condition of a policy."""
     condition = condition_of(policy)
     tree = condition.tree() if condition is not None else None
     if condition is None or tree is None:
         return []
     path += condition.path
-    remarks = condition.message.kept(f"remarks {is_deny}", lambda: _remarks(tree, is_deny))
+    remarks = condition.message.kept(f"remarks {paths.is_deny}", lambda: _remarks(tree, paths.is_deny))
+    remarks = [*remarks, *_other_paths(tree, paths.beside(policy))]
     places = node_places(tree, path, encoding) if remarks else {}
     return [Finding(NOTE, lint.words, places.get(node), path, lint.name) for node, lint in remarks]
 
@@ -40,7 +40,6 @@ def remarks_of(policy: Message, is_deny: bool, path: tuple, encoding) -> List[Fi
 def _remarks(tree: Node, is_deny: bool) -> List[Remark]:
     """The remarks on a condition."""
     found = [*_upper_case(tree), *_upper_case_in_loops(tree, frozenset()), *_host_key(tree), *_methods(tree)]
-    found += _other_paths(tree, is_deny)
     return found + ([*_missing_headers(tree), *_missing_facts(tree)] if is_deny else [])
 
 
@@ -104,11 +103,12 @@ def _methods(tree: Node) -> Iterator[Remark]:
                 yield part, Lint(LOWER_CASE, f"methods are compared as sent: write {upper}")
 
 
-def _other_paths(tree: Node, is_deny: bool) -> Iterator[Remark]:
+def _other_paths(tree: Node, paths: Paths) -> Iterator[Remark]:
     """Tests of a path by which a request is denied, and that other spellings of the path do not meet."""
     for node, is_negated in _conjuncts(tree, False):
-        if is_negated != is_deny and _tests_path(node):
-            yield node, Lint(OTHER_PATHS, OTHERS_PASS)
+        test = path_test(node) if is_negated != paths.is_deny else None
+        notes = [paths.note(text, test.holds) for text in test.texts] if test is not None else []
+        yield from [(node, note) for note in notes if note is not None][:1]
 
 
 def _conjuncts(node: Node, is_negated: bool) -> Iterator[Tuple[Node, bool]]:
@@ -120,19 +120,6 @@ def _conjuncts(node: Node, is_negated: bool) -> Iterator[Tuple[Node, bool]]:
             yield from _conjuncts(part, is_negated)
     else:
         yield node, is_negated != is_call(node, "_!=_", 2)
-
-
-def _tests_path(node: Node) -> bool:
-    """Whether a node asks for the path, or for the beginning or a part of it, by a text with a slash."""
-    if not isinstance(node, Call):
-        return False
-    is_test = node.function in PATH_TESTS and node.target is not None
-    if not is_test and not (node.function in EQUALITY and len(node.args) == 2):
-        return False
-    parts = ([node.target] if node.target is not None else []) + node.args
-    texts = [part.value for part in parts if isinstance(part, Const) and part.kind == "string"]
-    reads = [part for part in parts if attribute_name(part, frozenset()) in PATHS]
-    return bool(reads) and any(len(text) > 1 and text.startswith("/") for text in texts)
 
 
 def _missing_headers(tree: Node) -> Iterator[Remark]:

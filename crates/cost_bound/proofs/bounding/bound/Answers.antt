@@ -1,12 +1,11 @@
-use Rattle.std.proofs.Common.{[], refl}
+use Rattle.std.proofs.Common.{[]}
 use Rattle.cel_types.specs.View.{typed_view}
-use Rattle.cost_bound.proofs.Reached.{placed, placed_within}
-use Rattle.cost_bound.proofs.Remembering.{holds_nothing}
-use Rattle.cost_bound.proofs.Within.{answer_within}
+use Rattle.cel_costs.proofs.Reached.{placed, placed_within}
+use Rattle.cel_costs.proofs.Within.{answer_within}
 use Rattle.cost_bound.proofs.bounding.bound.Goals as goal
 
 pub measure-requires-clause-holds : goal.measure-requires-clause-holds
-measure-requires-clause-holds c = holds_nothing _ (typed_view c.args.typed.now) c.args.limits.now _ refl
+measure-requires-clause-holds c = c.in_ok-memo.ensures _
 
 pub returns-clause-within : goal.returns-clause-within
 returns-clause-within c = λ r a g sound fits is.

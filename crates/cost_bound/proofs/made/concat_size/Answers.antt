@@ -1,5 +1,5 @@
 use Rattle.std.proofs.Common.{◌≡◌, ◌+◌, refl, ◌∙◌}
-use Rattle.cost_bound.specs.Sizes.{most_of}
+use Rattle.cel_costs.specs.Sizes.{most_of}
 use Rattle.cost_bound.specs.steps.SizeView.{size_view}
 use Rattle.cost_bound.proofs.Capped.{capped_same}
 use Rattle.cost_bound.proofs.made.concat_size.Goals as goal

@@ -1,5 +1,5 @@
 use Rattle.std.proofs.Common.{sym, ap, ◌∙◌, arith}
-use Rattle.cost_bound.specs.Costs.{keys_of, masses, values_of}
+use Rattle.cel_costs.specs.Costs.{keys_of, masses, values_of}
 use Rattle.cost_bound.specs.steps.Numbers.{capped}
 use Rattle.cost_bound.specs.steps.SizeView.{size_view}
 use Rattle.cost_bound.proofs.Places.{place_before}

@@ -1,5 +1,5 @@
 use Rattle.std.proofs.Common.{◌≡◌, ◌≤◌, length, drop}
-use Rattle.cost_bound.specs.Costs.{keys_of, masses, values_of}
+use Rattle.cel_costs.specs.Costs.{keys_of, masses, values_of}
 use Rattle.cost_bound.specs.steps.Numbers.{capped}
 use Rattle.cost_bound.specs.steps.SizeView.{sizes_view}
 use Rattle.cost_bound.proofs.made.key_mass.Given as goal

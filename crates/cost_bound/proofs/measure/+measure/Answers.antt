@@ -6,7 +6,7 @@ use Rattle.cel_types.specs.View.{expr_view, loop_of}
 use Rattle.cel_types.specs.steps.ExprViews.{exprs_view, parts_view}
 use Rattle.cel_types.specs.declared.typed.TypedExpr.{the_lemmas}
 use Rattle.cel_value.specs.Types.{bool_type, type_view}
-use Rattle.cost_bound.specs.Costs.{charge_at, cost_of, size_of, sizes_of}
+use Rattle.cel_costs.specs.Costs.{charge_at, cost_of, size_of, sizes_of}
 use Rattle.cost_bound.specs.steps.Measuring.{call_part, next_size, turn_cost}
 use Rattle.cost_bound.specs.steps.Memos.{known_view, part_at}
 use Rattle.cost_bound.specs.steps.Numbers.{capped}
@@ -21,7 +21,7 @@ use Rattle.cost_bound.proofs.Locals as locals
 use Rattle.cost_bound.proofs.MemoViews.{view_unknown}
 use Rattle.cost_bound.proofs.Neighbours.{choice_alike, choice_found, choice_short, item_again, items_short}
 use Rattle.cost_bound.proofs.Pairs.{pair_found}
-use Rattle.cost_bound.proofs.Remembering.{each_holds, holds_nothing, loop_remembered, more_parts, part_holds, remembered_turns, told_in_turns, two_scopes}
+use Rattle.cost_bound.proofs.Remembering.{each_holds, holds_nothing, holds_of_kind, loop_remembered, more_parts, part_holds, remembered_turns, told_in_turns, two_scopes}
 use Rattle.cost_bound.proofs.Steps.{as_many, cost_count, exit_charge, exit_more, last_more, loop_adds, loop_ends_short, loop_short, loop_size}
 use Rattle.cost_bound.proofs.Turns.{grown_next, grown_still, still_paid, still_short, turns_next}
 use Rattle.cost_bound.proofs.measure.+measure.Goals as goal
@@ -47,6 +47,17 @@ measure-returns-in_ok-list_size-in-List-clause-found t c =
     let many = c.len-count.ensures in
     let left = c.in_ok-left-in-List.ensures.found in
     rw seen (c.in_ok-list_size-in-List.ensures sizes (omega arith) found.0, omega (arith, found.1))
+
+pub measure-measure_loop-requires : goal.measure-measure_loop-requires
+measure-measure_loop-requires t c =
+    let seen = ap expr_view c.in-Loop.is ∙ view_loop c.in-Loop.cel_type c.in-Loop.parts in (
+      first_of (search (rules, the_lemmas), grind (arith, the_lemmas), grind (arith, common_steps)),
+      (
+        c.requires.counted,
+        λ kind. rw c.deref-in-Loop.ensures (holds_of_kind _ (type_view c.in-Loop.cel_type) kind
+            (parts_view c.in-Loop.parts.value) _ _ (rw seen at c.requires.holds)),
+      ),
+    )
 
 pub measure-returns-in-Loop-clause-found : goal.measure-returns-in-Loop-clause-found
 measure-returns-in-Loop-clause-found t c =
@@ -331,23 +342,28 @@ pub remember-returns-then-left-eq0-clause-found : goal.remember-returns-then-lef
 remember-returns-then-left-eq0-clause-found t c = λ k others counted turns.
     holds_nothing _ (expr_view c.args.expr.now) c.args.limits.now others view_unknown
 
+pub remember-returns-in-Some-clause-found : goal.remember-returns-in-Some-clause-found
+remember-returns-in-Some-clause-found t c = λ k others counted turns.
+    (rw c.in-Some.is at c.in_ok-known.ensures) (expr_view c.args.expr.now) c.args.limits.now
+    (scope_view c.args.scope.now) c.requires.holds others
+
 pub remember-returns-in-Call-clause-found : goal.remember-returns-in-Call-clause-found
 remember-returns-in-Call-clause-found t c =
     let seen = ap expr_view c.in-Call.is ∙ view_call c.in-Call.cel_type c.in-Call.overload c.in-Call.operands in
     rw seen (IfOk-weaker c.remember_each.result _ _ (λ r h. λ k others counted turns.
-    (h.0 _ _, h.1 k others counted turns)) (rw c.deref-in-Call-2.ensures.value at c.remember_each.ensures.found))
+    (h.0 _ _ _, h.1 k others counted turns)) (rw c.deref-in-Call-2.ensures.value at c.remember_each.ensures.found))
 
 pub remember-returns-in-List-clause-found : goal.remember-returns-in-List-clause-found
 remember-returns-in-List-clause-found t c =
     let seen = ap expr_view c.in-List.is ∙ view_list c.in-List.cel_type c.in-List.elements in
     rw seen (IfOk-weaker c.remember_each-in-List.result _ _ (λ r h. λ k others counted turns.
-    (h.0 _ _, h.1 k others counted turns)) (rw c.deref-in-List.ensures.value at c.remember_each-in-List.ensures.found))
+    (h.0 _ _ _, h.1 k others counted turns)) (rw c.deref-in-List.ensures.value at c.remember_each-in-List.ensures.found))
 
 pub remember-returns-in-Map-clause-found : goal.remember-returns-in-Map-clause-found
 remember-returns-in-Map-clause-found t c =
     let seen = ap expr_view c.in-Map.is ∙ view_map c.in-Map.cel_type c.in-Map.pairs in
     rw seen (IfOk-weaker c.remember_each-in-Map.result _ _ (λ r h. λ k others counted turns.
-    (h.0 _ _, h.1 k others counted turns)) (rw c.deref-in-Map.ensures.value at c.remember_each-in-Map.ensures.found))
+    (h.0 _ _ _, h.1 k others counted turns)) (rw c.deref-in-Map.ensures.value at c.remember_each-in-Map.ensures.found))
 
 pub remember-returns-then-is_steady-clause-found : goal.remember-returns-then-is_steady-clause-found
 remember-returns-then-is_steady-clause-found t c =
@@ -370,7 +386,11 @@ pub remember-remember_loop-requires : goal.remember-remember_loop-requires
 remember-remember_loop-requires t c =
     let seen = ap expr_view c.in-Loop.is ∙ view_loop c.in-Loop.cel_type c.in-Loop.parts in (
       first_of (search (rules, the_lemmas), grind (arith, the_lemmas), grind (arith, common_steps)),
-      (c.requires.counted, λ kind. rw c.deref-in-Loop.ensures (rw seen at c.requires.holds)),
+      (
+        c.requires.counted,
+        λ kind. rw c.deref-in-Loop.ensures (holds_of_kind _ (type_view c.in-Loop.cel_type) kind
+            (parts_view c.in-Loop.parts.value) _ _ (rw seen at c.requires.holds)),
+      ),
     )
 
 pub remember_each-remember-requires : goal.remember_each-remember-requires

@@ -2,8 +2,8 @@ use Rattle.std.proofs.Common.{◌≡◌, ℕ, ◌+◌, ◌<◌, ◌≤◌, List,
 use Rattle.cel_types.specs.View.{expr_view}
 use Rattle.cel_types.specs.steps.ExprViews.{exprs_view, parts_view}
 use Rattle.cel_types.specs.declared.typed.TypedExpr.{TypedExpr}
-use Rattle.cost_bound.specs.Costs.{cost_of, costs_of, grown, join_all, sizes_of, total, turns_cost}
-use Rattle.cost_bound.specs.Sizes.{Size}
+use Rattle.cel_costs.specs.Costs.{cost_of, costs_of, grown, join_all, sizes_of, total, turns_cost}
+use Rattle.cel_costs.specs.Sizes.{Size}
 use Rattle.cost_bound.specs.steps.Measuring.{next_size, turn_cost}
 use Rattle.cost_bound.specs.steps.Memos.{MemoHolds, InTurns, memo_at, memos_view}
 use Rattle.cost_bound.specs.steps.Numbers.{capped}

@@ -2,7 +2,7 @@ use Rattle.std.proofs.Common.{arith, ◌≡◌, ◌<◌, ◌⊎◌, inl, inr, []
 use Rattle.cel_value.specs.Types.{bool_type}
 use Rattle.cel_types.specs.Elaborated.{TypedTree, kind}
 use Rattle.cel_types.specs.View.{typed_view}
-use Rattle.cost_bound.specs.Costs.{cost_of}
+use Rattle.cel_costs.specs.Costs.{cost_of}
 use Rattle.cel_compile.specs.Codes.{code_of}
 use Rattle.cel_compile.specs.Slots.{HasFewLocals}
 use Rattle.cel_compile.proofs.Forwards.{elaborated_code_is_forward}

@@ -1,5 +1,6 @@
 use Rattle.rbacd.specs.Run.{Ran}
 use Rattle.rbacd.proofs.Ends.{end_of_words}
+use Rattle.command_line.proofs.WordLemmas.{runnable}
 use Rattle.rbacd.proofs.run.run.Goals as goal
 
 pub returns-in-Ok : goal.returns-in-Ok
@@ -10,3 +11,6 @@ returns-in-Err g c =
     let (told, same, left) = c.end_by.ensures in
     let fault = c.words_fault.ensures in
     end_of_words _ _ _ _ _ _ _ _ _ _ _ c.in-Err.error c.words_fault.result told fault.memory fault.words c.in-Err.ensures.mistaken same left
+
+pub run_named-requires : goal.run_named-requires
+run_named-requires g c = runnable c.in-Ok.ensures.job.1.0 c.in-Ok.job c.in-Ok.ensures.job.1.2

@@ -1,0 +1,60 @@
+-- The facts of a connection as a program in C gives them (this project's own): which facts they are.
+use Rattle.std.specs.Prelude.{ℕ, zero, suc, ℤ, pos, negsuc, ◌≡◌, ◌⊎◌, ◌==◌, nat_lt, Bool, true, false, Option, Some, None, List, [], ◌∷◌, length, IfSome, if◌then◌else◌}
+use Rattle.std.specs.Int.{from_be_bytes, w32, w128}
+use Rattle.std.specs.List.{AllByRecursion}
+use Rattle.std.specs.Str.{IsUtf8}
+use Rattle.attributes.specs.Conn.{Facts, texts_of}
+use Rattle.attributes.specs.declared.address.Ip.{Ip}
+use Rattle.attributes.specs.declared.address.Ip.TheVariants.{V4, V6}
+use Rattle.c_inputs.specs.declared.facts.Text.{Text}
+use Rattle.c_inputs.specs.declared.facts.FactsFault.{FactsFault}
+use Rattle.c_inputs.specs.declared.facts.FactsFault.TheVariants.{Memory, NoText}
+use Rattle.c_inputs.specs.declared.facts.FactsInput.{FactsInput}
+
+-- the bytes of a text, if it is there
+abbrev pub text_given : Text → Option (List ℕ)
+text_given t = if t.is_there then Some t.bytes.now else None
+
+-- a port, if the number is one
+abbrev pub port_given : ℤ → Option ℕ
+port_given (pos n) = if nat_lt n 65536 then Some n else None
+port_given (negsuc n) = None
+
+-- yes or no, if the number is 0 or more
+abbrev pub flag_given : ℤ → Option Bool
+flag_given (pos zero) = Some false
+flag_given (pos (suc n)) = Some true
+flag_given (negsuc n) = None
+
+-- an address of 4 or 16 bytes, the highest first; any other number of bytes is no address
+abbrev pub address_given : List ℕ → Option Ip
+address_given bytes = if length bytes == 4 then Some (V4 (from_be_bytes w32 bytes))
+    else (if length bytes == 16 then Some (V6 (from_be_bytes w128 bytes)) else None)
+
+-- the facts of a connection that are given
+abbrev pub facts_given : FactsInput → Facts
+facts_given f = record {
+  source_address = text_given f.source_address;
+  source_port = port_given f.source_port;
+  destination_address = text_given f.destination_address;
+  destination_port = port_given f.destination_port;
+  mtls = flag_given f.mtls;
+  connection_id = if f.has_connection_id then Some f.connection_id else None;
+  requested_server_name = text_given f.requested_server_name;
+  tls_version = text_given f.tls_version;
+  subject_peer_certificate = text_given f.subject_peer_certificate;
+  dns_san_peer_certificate = text_given f.dns_san_peer_certificate;
+  uri_san_peer_certificate = text_given f.uri_san_peer_certificate;
+  direct_remote_ip = address_given f.direct_remote_ip.now;
+  remote_ip = address_given f.remote_ip.now;
+  destination_ip = address_given f.destination_ip.now;
+  scheme = f.scheme.now;
+}
+
+-- each text of the facts is UTF-8
+abbrev pub AreTexts : Facts → Type 0
+AreTexts f = AllByRecursion (λ text. IfSome text IsUtf8) (texts_of f)
+
+-- out of memory, or a text is at fault, as P says
+abbrev pub MemoryOr : Type 0 → FactsFault → Type 0
+MemoryOr P e = (e ≡ Memory) ⊎ ((e ≡ NoText) × P)

@@ -1,0 +1,141 @@
+//! The facts of a connection, as C gives them.
+
+ghost use Rattle.std.specs.Prelude.{◌≡◌, IfOk, IfErr, IfSome, Some, None, if◌then◌else◌};
+ghost use Rattle.std.specs.Rc.{rc_str_bytes};
+ghost use Rattle.std.specs.Str.{IsUtf8};
+ghost use Rattle.attributes.specs.Conn.{conn_view, text_view};
+ghost use Rattle.c_inputs.specs.Facts.{AreTexts, MemoryOr, address_given, facts_given, flag_given, port_given, text_given};
+
+use attributes::{Conn, Ip};
+use std::alloc::{AllocError, Global};
+use std::rc::RcStr;
+use std::str;
+
+/// A text that may be absent. The bytes of an absent one are not read.
+#[repr(C)]
+#[derive(Drop)]
+pub struct Text<'a> {
+    pub bytes: &'a [u8],
+    pub is_there: bool,
+}
+
+/// The facts of a connection. A number below 0 is absent, and so is an address that has neither 4 nor 16 bytes.
+#[repr(C)]
+#[derive(Drop)]
+pub struct FactsInput<'a> {
+    pub scheme: &'a [u8],
+    pub source_address: Text<'a>,
+    pub destination_address: Text<'a>,
+    pub requested_server_name: Text<'a>,
+    pub tls_version: Text<'a>,
+    pub subject_peer_certificate: Text<'a>,
+    pub dns_san_peer_certificate: Text<'a>,
+    pub uri_san_peer_certificate: Text<'a>,
+    pub direct_remote_ip: &'a [u8],
+    pub remote_ip: &'a [u8],
+    pub destination_ip: &'a [u8],
+    pub source_port: i32,
+    pub destination_port: i32,
+    pub mtls: i32,
+    pub connection_id: u64,
+    pub has_connection_id: bool,
+}
+
+/// Why facts are no connection.
+pub enum FactsFault {
+    /// A text is not UTF-8.
+    NoText,
+    /// Memory ran out.
+    Memory,
+}
+
+impl From<AllocError> for FactsFault {
+    ghost use Rattle.c_inputs.specs.declared.facts.FactsFault.TheVariants.{Memory};
+
+    ghost from_gives = { λ _ e. e ≡ Memory };
+
+    fn from(_error: AllocError) -> FactsFault {
+        FactsFault::Memory
+    }
+}
+
+/// The connection of these facts; `NoText` if one of the texts is not UTF-8.
+pub fn conn_of(alloc: Global, facts: &FactsInput<'_>) -> Result<Conn, FactsFault>
+    ensures found { IfOk result (λ conn. conn_view conn ≡ facts_given facts.now) }
+    ensures fault { IfErr result (MemoryOr (¬ (AreTexts (facts_given facts.now)))) }
+{
+    Ok(Conn {
+        source_address: text_or_none(alloc, &facts.source_address)?,
+        source_port: port(facts.source_port),
+        destination_address: text_or_none(alloc, &facts.destination_address)?,
+        destination_port: port(facts.destination_port),
+        mtls: flag(facts.mtls),
+        connection_id: number(facts.connection_id, facts.has_connection_id),
+        requested_server_name: text_or_none(alloc, &facts.requested_server_name)?,
+        tls_version: text_or_none(alloc, &facts.tls_version)?,
+        subject_peer_certificate: text_or_none(alloc, &facts.subject_peer_certificate)?,
+        dns_san_peer_certificate: text_or_none(alloc, &facts.dns_san_peer_certificate)?,
+        uri_san_peer_certificate: text_or_none(alloc, &facts.uri_san_peer_certificate)?,
+        direct_remote_ip: address(facts.direct_remote_ip),
+        remote_ip: address(facts.remote_ip),
+        destination_ip: address(facts.destination_ip),
+        scheme: shared_text(alloc, facts.scheme)?,
+    })
+}
+
+fn shared_text(alloc: Global, bytes: &[u8]) -> Result<RcStr, FactsFault>
+    ensures found { IfOk result (λ text. rc_str_bytes text ≡ bytes.now) }
+    ensures fault { IfErr result (MemoryOr (¬ (IsUtf8 bytes.now))) }
+{
+    match str::from_utf8(bytes) {
+        Ok(text) => Ok(RcStr::from_str(alloc, text)?),
+        Err(_) => Err(FactsFault::NoText),
+    }
+}
+
+fn text_or_none(alloc: Global, given: &Text<'_>) -> Result<Option<RcStr>, FactsFault>
+    ensures found { IfOk result (λ text. text_view text ≡ text_given given.now) }
+    ensures fault { IfErr result (MemoryOr (¬ (IfSome (text_given given.now) IsUtf8))) }
+{
+    if !given.is_there {
+        return Ok(None);
+    }
+    Ok(Some(shared_text(alloc, given.bytes)?))
+}
+
+fn port(given: i32) -> Option<u16>
+    ensures { result ≡ port_given given }
+{
+    if given < 0 || given > 65_535 {
+        return None;
+    }
+    Some(given as u16)
+}
+
+fn flag(given: i32) -> Option<bool>
+    ensures { result ≡ flag_given given }
+{
+    if given < 0 { None } else { Some(given != 0) }
+}
+
+fn number(given: u64, is_there: bool) -> Option<u64>
+    ensures { result ≡ (if is_there then Some given else None) }
+{
+    if is_there { Some(given) } else { None }
+}
+
+fn address(bytes: &[u8]) -> Option<Ip>
+    ensures { result ≡ address_given bytes.now }
+{
+    match bytes.len() {
+        4 => match bytes.first_chunk::<4>() {
+            Some(octets) => Some(Ip::V4(u32::from_be_bytes(*octets))),
+            None => unreachable!(),
+        },
+        16 => match bytes.first_chunk::<16>() {
+            Some(octets) => Some(Ip::V6(u128::from_be_bytes(*octets))),
+            None => unreachable!(),
+        },
+        _ => None,
+    }
+}

@@ -1,0 +1,2 @@
+pub mod FilterValues
+pub mod ProxyValues

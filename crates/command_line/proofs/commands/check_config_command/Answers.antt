@@ -1,0 +1,25 @@
+use Rattle.std.proofs.Common.{◌≡◌, ◌∙◌, ap, ap₂, refl, codes, false}
+use Rattle.std.proofs.lemmas.Result.{IfOk-weaker}
+use Rattle.clap.specs.Words.{app_of, new_app, with_rule}
+use Rattle.clap.specs.Simple.{app_of_fields}
+use Rattle.clap.specs.declared.builder.command.Command.TheViews.{out-Command}
+use Rattle.command_line.proofs.commands.check_config_command.Goals as goal
+
+pub returns-clause-app : goal.returns-clause-app
+returns-clause-app c =
+    let begun : app_of c.about.result ≡ new_app (codes "check-config") = ap app_of_fields c.about.ensures
+    ∙ c.new.ensures.app in
+    let after = ap app_of_fields c.after_help.ensures ∙ begun in
+    IfOk-weaker c.arg.result _ _ (λ new adds. adds.shape c.config_arg.ensures.local
+    ∙ ap₂ with_rule after c.config_arg.ensures.rule) c.arg.ensures
+
+pub returns-clause-local : goal.returns-clause-local
+returns-clause-local c =
+    let about : (out-Command c.about.result).has_globals ≡ false =
+    rw c.about.ensures c.new.ensures.local in
+    let after : (out-Command c.after_help.result).has_globals ≡ false =
+    rw c.after_help.ensures about in
+    IfOk-weaker c.arg.result _ _
+    (λ new adds. adds.globals
+    ∙ rw (after, c.config_arg.ensures.local) refl)
+    c.arg.ensures

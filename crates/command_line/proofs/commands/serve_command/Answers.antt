@@ -1,0 +1,27 @@
+use Rattle.std.proofs.Common.{◌≡◌, ◌∙◌, ap, ap₂, refl, codes, false}
+use Rattle.std.proofs.lemmas.Result.{IfOk-weaker}
+use Rattle.clap.specs.Words.{app_of, new_app, with_rule}
+use Rattle.clap.specs.Simple.{app_of_fields}
+use Rattle.clap.specs.declared.builder.command.Command.TheViews.{out-Command}
+use Rattle.command_line.proofs.commands.serve_command.Goals as goal
+
+pub returns-clause-app : goal.returns-clause-app
+returns-clause-app c =
+    let begun : app_of c.about.result ≡ new_app (codes "serve") = ap app_of_fields c.about.ensures
+    ∙ c.new.ensures.app in
+    let after = ap app_of_fields c.after_help.ensures ∙ begun in
+    let first = c.in_ok-arg.ensures.shape c.config_arg.ensures.local
+    ∙ ap₂ with_rule after c.config_arg.ensures.rule in
+    IfOk-weaker c.arg-2.result _ _ (λ new adds. adds.shape c.check_arg.ensures.local
+    ∙ ap₂ with_rule first c.check_arg.ensures.rule) c.arg-2.ensures
+
+pub returns-clause-local : goal.returns-clause-local
+returns-clause-local c =
+    let about : (out-Command c.about.result).has_globals ≡ false =
+    rw c.about.ensures c.new.ensures.local in
+    let after : (out-Command c.after_help.result).has_globals ≡ false =
+    rw c.after_help.ensures about in
+    IfOk-weaker c.arg-2.result _ _
+    (λ new adds. adds.globals
+    ∙ rw (c.in_ok-arg.ensures.globals, after, c.config_arg.ensures.local, c.check_arg.ensures.local) refl)
+    c.arg-2.ensures

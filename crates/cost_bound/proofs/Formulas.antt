@@ -1,0 +1,170 @@
+-- The laws of formulas.
+use Rattle.std.proofs.Common.{◌≡◌, nat_eq, true, false, ℕ, ◌+◌, ◌*◌, ◌-◌, ◌<◌, ◌^◌, List, [], ◌∷◌, ◌++◌, length, get_or, max, refl, sym, ap, ◌∙◌, inl, inr, rules, arith}
+use Rattle.std.proofs.Math.ListN.{get_or-append}
+use Rattle.std.proofs.Math.Seq.{get_or-append_seam}
+use Rattle.std.proofs.lemmas.Bool.{cases_lt}
+use Rattle.std.proofs.lemmas.Bool.Decides.{nat_tests}
+use Rattle.std.proofs.lemmas.List.{length-append}
+use Rattle.std.specs.declared.rc.Rc.{Rc}
+use Rattle.std.specs.declared.alloc.Global.{Global}
+use Rattle.cel_types.specs.TypedMeaning.{local_at}
+use Rattle.cel_costs.specs.Costs.{known}
+use Rattle.cel_costs.specs.Sizes.{Size}
+use Rattle.cost_bound.specs.steps.Formulas.{FormulaTree, fixed, local, either, both, Gets, HasNumbers, HasShape, SameNumbers, ShapeTree, formula_view, given, kind_of, length_at, seen_all, seen_of}
+use Rattle.cost_bound.specs.steps.Numbers.{capped}
+use Rattle.cost_bound.specs.declared.numbers.Formula.{Formula, Fixed, Local, Either, Both, the_lemmas}
+use Rattle.cost_bound.specs.declared.numbers.Gives.{Gives}
+use Rattle.cost_bound.specs.declared.numbers.Kind.{Kind}
+use Rattle.cost_bound.specs.declared.numbers.Numbers.{Numbers}
+use Rattle.cost_bound.specs.declared.numbers.Seen.{Seen}
+use Rattle.cost_bound.proofs.Capped.{capped_same}
+
+pub view_fixed : (c n : ℕ) → formula_view (Fixed c n) ≡ fixed c n
+view_fixed c n = search (rules, the_lemmas)
+
+pub view_local : (n : ℕ) (k : Kind) → formula_view (Local n k) ≡ local n k
+view_local n k = search (rules, the_lemmas)
+
+pub view_either : (p q : Rc Formula Global) → formula_view (Either p q)
+    ≡ either (formula_view p.value) (formula_view q.value)
+view_either p q = search (rules, the_lemmas)
+
+pub view_both : (p q : Rc Formula Global) (c f : ℕ) (g : Gives) → formula_view (Both p q c f g)
+    ≡ both (formula_view p.value) (formula_view q.value) c f g
+view_both p q c f g = search (rules, the_lemmas)
+
+-- ---- locals
+
+pub seen_many : (ss : List Size) → length (seen_all ss) ≡ length ss
+seen_many [] = refl
+seen_many (s ∷ ss) =
+    let one = length-append (seen_all ss) (seen_of s ∷ []) in
+    omega (arith, one, seen_many ss)
+
+-- a local by the number of those outside of it
+pub seen_at : (ss : List Size) (n : ℕ) (d : Seen) → n < length (seen_all ss)
+    → get_or (seen_all ss) n d ≡ seen_of (known (local_at n ss))
+seen_at [] n d within = absurd (omega arith)
+seen_at (s ∷ ss) n d within =
+    let many = seen_many ss in
+    let all = seen_many (s ∷ ss) in
+    elim (cases_lt n (length ss)) [
+      | inl lower ↦
+          let e : nat_eq n (length ss) ≡ false =
+          (let differ : n ≡ length ss → ⊥ = λ k. omega (arith, k) in grind (arith, nat_tests)) in
+          rw e (get_or-append (seen_all ss) (seen_of s ∷ []) d n (omega arith) ∙ seen_at ss n d (omega arith))
+      | inr high ↦
+          let same : n ≡ length (seen_all ss) = omega arith in
+          let e : nat_eq n (length ss) ≡ true =
+          (let k : n ≡ length ss = omega arith in grind (arith, nat_tests)) in
+          rw e (ap (λ i. get_or (seen_all ss ++ seen_of s ∷ []) i d) same
+          ∙ get_or-append_seam (seen_all ss) (seen_of s) [] d)
+    ]
+
+-- the numbers of a local of the named kind
+pub local_has : (ss : List Size) (n : ℕ) (k : Kind) (x : Seen) (r : Numbers) → x ≡ seen_of (known (local_at n ss))
+    → x.kind ≡ k → r.cost ≡ 1 → r.length ≡ capped x.length → HasNumbers (local n k) ss r
+local_has ss n k x r is kind one same = λ low.
+    let named : kind_of (known (local_at n ss)) ≡ k = sym (ap (λ y. y.kind) is) ∙ kind in
+    let whole = ap (λ y. y.length) is in
+    (named, one, same ∙ ap capped whole)
+
+-- ---- numbers
+
+-- numbers that are not known
+pub none_has : (p : FormulaTree) (ss : List Size) (r : Numbers) → r.cost ≡ 2 ^ 64 - 1 → HasNumbers p ss r
+none_has p ss r is = λ low. absurd (omega arith)
+
+pub fixed_has : (c n : ℕ) (ss : List Size) (r : Numbers) → r.cost ≡ c → r.length ≡ n → n < 2 ^ 64
+    → HasNumbers (fixed c n) ss r
+fixed_has c n ss r cost long fits = λ low. (tt, cost, long ∙ sym (capped_same n fits))
+
+greater_capped : (m n : ℕ) → max (capped m) (capped n) ≡ capped (max m n)
+greater_capped m n = omega arith
+
+pub either_has : (p q : FormulaTree) (ss : List Size) (one other r : Numbers) → r.cost ≡ max one.cost other.cost
+    → r.length ≡ max one.length other.length → HasNumbers p ss one → HasNumbers q ss other
+    → HasNumbers (either p q) ss r
+either_has p q ss one other r cost long hp hq = λ low.
+    let a = hp (omega arith) in
+    let b = hq (omega arith) in (
+      (a.0, b.0),
+      rw (← a.1, ← b.1) cost,
+      long ∙ rw (a.2, b.2) (greater_capped (length_at p ss) (length_at q ss)),
+    )
+
+cost_sum : (r costs own one other x : ℕ) → r ≡ capped (costs + own) → costs ≡ capped (one + other)
+    → own ≡ capped x → r < 2 ^ 64 - 1 → r ≡ one + other + x
+cost_sum r costs own one other x whole paid ow low = omega arith
+
+itself : (n : ℕ) → n < 2 ^ 64 → n ≡ capped n
+itself n h = sym (capped_same n h)
+
+module _ (p q : FormulaTree) (ss : List Size) (one other r : Numbers) (c f : ℕ) (g : Gives)
+    (lengths times own costs : ℕ) where
+  pub both_has : one.cost < 2 ^ 64 → other.cost < 2 ^ 64 → own < 2 ^ 64 → costs < 2 ^ 64 → c < 2 ^ 64
+      → f < 2 ^ 64
+      → ((m n : ℕ) → one.length ≡ capped m → other.length ≡ capped n → lengths ≡ capped (m + n))
+      → ((m n : ℕ) → f ≡ capped m → lengths ≡ capped n → times ≡ capped (m * n))
+      → ((m n : ℕ) → c ≡ capped m → times ≡ capped n → own ≡ capped (m + n))
+      → ((m n : ℕ) → one.cost ≡ capped m → other.cost ≡ capped n → costs ≡ capped (m + n))
+      → ((m n : ℕ) → costs ≡ capped m → own ≡ capped n → r.cost ≡ capped (m + n))
+      → ((m n : ℕ) → one.length ≡ capped m → other.length ≡ capped n → r.length ≡ capped (given g m n))
+      → HasNumbers p ss one → HasNumbers q ss other → HasNumbers (both p q c f g) ss r
+  both_has fit1 fit2 fit3 fit4 fit5 fit6 h1 h2 h3 h4 h5 h6 hp hq = λ low.
+      let whole = h5 costs own (itself costs fit4) (itself own fit3) in
+      let paid = h4 one.cost other.cost (itself one.cost fit1) (itself other.cost fit2) in
+      let a = hp (omega (arith, whole, paid, low)) in
+      let b = hq (omega (arith, whole, paid, low)) in
+      let long = h1 (length_at p ss) (length_at q ss) a.2 b.2 in
+      let many = h2 f (length_at p ss + length_at q ss) (itself f fit6) long in
+      let ow = h3 c (f * (length_at p ss + length_at q ss)) (itself c fit5) many in
+      let all = cost_sum r.cost costs own one.cost other.cost (c + f * (length_at p ss + length_at q ss))
+      whole paid ow low in (
+        (a.0, b.0),
+        rw (← a.1, ← b.1) all,
+        h6 (length_at p ss) (length_at q ss) a.2 b.2,
+      )
+
+-- ---- the same numbers
+
+pub same_as : (r p : FormulaTree) → r ≡ p → SameNumbers r p
+same_as r p e = rw e (λ ss h. (h, refl, refl))
+
+below_cap : (n m : ℕ) → n ≡ capped m → n < 2 ^ 64 - 1 → n ≡ m
+below_cap n m is low = omega arith
+
+pub fixed_same : (r p : FormulaTree) (n : Numbers) → r ≡ fixed n.cost n.length → n.cost < 2 ^ 64 - 1
+    → n.length < 2 ^ 64 - 1 → ((ss : List Size) → HasNumbers p ss n) → SameNumbers r p
+fixed_same r p n is low short h = rw is (λ ss kinds.
+    let k = h ss low in (k.0, k.1, below_cap n.length (length_at p ss) k.2 short))
+
+pub gets_same : (r p : FormulaTree) (sh : ShapeTree) (ss : List Size) (s : Size) (c : ℕ) → SameNumbers r p
+    → Gets p sh ss s c → Gets r sh ss s c
+gets_same r p sh ss s c same h = λ named.
+    let k = same ss named in
+    let g = h k.0 in (rw k.2 g.0, k.1 ∙ g.1)
+
+-- two expressions, a charge, and so many times their lengths
+pub pair_gets : (r p q : FormulaTree) (c f : ℕ) (g : Gives) (left right sh : ShapeTree) (ss : List Size)
+    (s u v : Size) (a b n : ℕ) → SameNumbers r (both p q c f g) → Gets p left ss s a → Gets q right ss u b
+    → ((m k : ℕ) → HasShape left m ss s → HasShape right k ss u
+    → HasShape sh (given g m k) ss v × (a + b + (c + f * (m + k)) ≡ n))
+    → Gets r sh ss v n
+pair_gets r p q c f g left right sh ss s u v a b n same hp hq h =
+    gets_same r (both p q c f g) sh ss v n same (λ named.
+    let first = hp named.0 in
+    let second = hq named.1 in
+    let whole = h (length_at p ss) (length_at q ss) first.0 second.0 in
+    (whole.0, rw (first.1, second.1) whole.1))
+
+-- the greater of two
+pub either_gets : (r p q : FormulaTree) (left right sh : ShapeTree) (ss : List Size)
+    (s u v : Size) (a b : ℕ) → SameNumbers r (either p q) → Gets p left ss s a → Gets q right ss u b
+    → ((m k : ℕ) → HasShape left m ss s → HasShape right k ss u → HasShape sh (max m k) ss v)
+    → Gets r sh ss v (max a b)
+either_gets r p q left right sh ss s u v a b same hp hq h =
+    gets_same r (either p q) sh ss v (max a b) same (λ named.
+    let first = hp named.0 in
+    let second = hq named.1 in
+    (h (length_at p ss) (length_at q ss) first.0 second.0, rw (first.1, second.1) refl))

@@ -1,0 +1,60 @@
+-- The laws of shapes.
+use Rattle.std.proofs.Common.{◌≡◌, ℕ, ◌+◌, List, [], max, refl, sym, ap, ◌∙◌, rules, arith}
+use Rattle.std.specs.declared.rc.Rc.{Rc}
+use Rattle.std.specs.declared.vec.Vec.{Vec}
+use Rattle.std.specs.declared.alloc.Global.{Global}
+use Rattle.cel_costs.specs.Sizes.{Size, join, mass_of}
+use Rattle.cost_bound.specs.steps.Formulas.{ShapeTree, flat, lengthy, joins, items, HasShape, joined, shape_view}
+use Rattle.cost_bound.specs.declared.shape.Shape.{Shape, Flat as FlatShape, Text as TextShape, Joined, Items, the_lemmas}
+use Rattle.cost_bound.proofs.Forms.{join_flat, join_swap}
+
+pub view_flat : shape_view FlatShape ≡ flat
+view_flat = search (rules, the_lemmas)
+
+pub view_text : shape_view TextShape ≡ lengthy
+view_text = search (rules, the_lemmas)
+
+pub view_joined : (ns : Rc (Vec ℕ Global) Global) → shape_view (Joined ns) ≡ joins ns.value.items
+view_joined ns = search (rules, the_lemmas)
+
+pub view_items : (n : ℕ) (s : Rc Shape Global) → shape_view (Items n s) ≡ items n (shape_view s.value)
+view_items n s = search (rules, the_lemmas)
+
+-- the mass of what is flat, or a text
+pub flat_mass : (n : ℕ) (ss : List Size) (s : Size) → HasShape flat n ss s → mass_of s ≡ 1 + n
+flat_mass n ss s h = rw (h.0, h.1) refl
+
+pub text_mass : (n : ℕ) (ss : List Size) (s : Size) → HasShape lengthy n ss s → mass_of s ≡ 1 + n
+text_mass n ss s h = rw h refl
+
+-- two joined
+module _ (m n : ℕ) (ss : List Size) (s t : Size) where
+  zero_left : (k : ℕ) → max 0 k ≡ k
+  zero_left k = omega arith
+
+  zero_right : (k : ℕ) → max k 0 ≡ k
+  zero_right k = omega arith
+
+  pub flat_left : (sh : ShapeTree) → HasShape flat m ss s → HasShape sh n ss t
+      → HasShape sh (max m n) ss (join s t)
+  flat_left sh h k = rw (h.0, h.1, zero_left n) k
+
+  pub flat_right : (sh : ShapeTree) → HasShape sh m ss s → HasShape flat n ss t
+      → HasShape sh (max m n) ss (join s t)
+  flat_right sh h k = rw (k.0, k.1, zero_right m, join_flat s) h
+
+  pub texts : HasShape lengthy m ss s → HasShape lengthy n ss t → HasShape lengthy (max m n) ss (join s t)
+  texts h k = rw (h, k) refl
+
+  pub all_joined : (ns ms us all : List ℕ) → ((zs : List Size) → joined us zs ≡ join (joined ns zs) (joined [] zs))
+      → ((zs : List Size) → joined all zs ≡ join (joined ms zs) (joined us zs))
+      → HasShape (joins ns) m ss s → HasShape (joins ms) n ss t → HasShape (joins all) (max m n) ss (join s t)
+  all_joined ns ms us all first second h k =
+      rw (h, k) (join_swap (joined ns ss) (joined ms ss)
+      ∙ ap (join (joined ms ss)) (sym (join_flat (joined ns ss)) ∙ sym (first ss)) ∙ sym (second ss))
+
+  pub lists : (c d : ℕ) (a b each : ShapeTree) → ((e f : Size) → HasShape a m ss e → HasShape b n ss f
+      → HasShape each (max m n) ss (join e f)) → HasShape (items c a) m ss s → HasShape (items d b) n ss t
+      → HasShape (items (max c d) each) (max m n) ss (join s t)
+  lists c d a b each h one other =
+      (join one.0 other.0, rw (one.1, other.1) refl, h one.0 other.0 one.2 other.2)

@@ -1,0 +1,215 @@
+//! The forms of calls.
+
+ghost use Rattle.std.specs.Prelude.{◌≡◌, IfOk, IfSome, List, if◌then◌else◌};
+ghost use Rattle.attributes.specs.Limits.{LimitsValue};
+ghost use Rattle.cel_overload.specs.declared.overload.Overload.TheVariants.{Operate};
+ghost use Rattle.cel_ops.specs.declared.operation.Operation.TheVariants as operations;
+ghost use Rattle.cel_types.specs.Elaborated.{TypedTree, kind, no_typed, typed, typed_call};
+ghost use Rattle.cel_types.specs.View.{expr_view};
+ghost use Rattle.cel_types.specs.steps.ExprViews.{exprs_view};
+ghost use Rattle.cel_value.specs.Types.{ValueType, bytes_type, text_type, type_view};
+ghost use Rattle.cel_costs.specs.Costs.{counted_cost};
+ghost use Rattle.cel_costs.specs.Sizes.{Size, most_of};
+ghost use Rattle.cost_bound.specs.steps.Formulas.{fixed, formula_view};
+ghost use Rattle.cost_bound.specs.steps.Memos.{Forms, MemoHoldsEach, memo_view};
+
+use crate::form::{Form, choice_form, form_at, pair};
+use crate::memo::Memo;
+use crate::numbers::{Formula, Gives};
+use crate::shape::Shape;
+use cel_ops::{Conversion, Operation};
+use cel_overload::Overload;
+use cel_types::TypedExpr;
+use cel_value::CelType;
+use std::alloc::{AllocError, Global};
+use std::rc::Rc;
+
+/// The form of a call, by the memos of its operands.
+pub(crate) fn call_form(
+    alloc: Global,
+    overload: Overload,
+    operands: &[TypedExpr<'_>],
+    memo: &Memo,
+) -> Result<Option<Form>, AllocError>
+    ensures { IfOk result (λ found. IfSome found (λ f. (t : ValueType) (l : LimitsValue) (sizes : List Size)
+        → MemoHoldsEach (memo_view memo.now) 0 (exprs_view operands.now) l sizes
+        → Forms f (typed_call t overload (exprs_view operands.now)) l)) }
+{
+    match operands {
+        [operand] => {
+            let Some(one) = form_at(memo, 0) else {
+                return Ok(None);
+            };
+            match overload {
+                Overload::Operate(op) => single_form(alloc, op, operand, one),
+                Overload::Conditional => Ok(None),
+            }
+        }
+        [_, _] => {
+            let Some(one) = form_at(memo, 0) else {
+                return Ok(None);
+            };
+            let Some(other) = form_at(memo, 1) else {
+                return Ok(None);
+            };
+            match overload {
+                Overload::Operate(op) => pair_form(alloc, op, one, other),
+                Overload::Conditional => Ok(None),
+            }
+        }
+        [_, _, _] => {
+            let Some(tested) = form_at(memo, 0) else {
+                return Ok(None);
+            };
+            let Some(one) = form_at(memo, 1) else {
+                return Ok(None);
+            };
+            let Some(other) = form_at(memo, 2) else {
+                return Ok(None);
+            };
+            match overload {
+                Overload::Conditional => choice_form(alloc, tested, one, other),
+                Overload::Operate(_) => Ok(None),
+            }
+        }
+        _ => Ok(None),
+    }
+}
+
+// The form of an operation on one operand.
+fn single_form(
+    alloc: Global,
+    op: Operation,
+    operand: &TypedExpr<'_>,
+    form: &Form,
+) -> Result<Option<Form>, AllocError>
+    ensures { IfOk result (λ found. IfSome found (λ f. (t : ValueType) (l : LimitsValue)
+        → Forms form.now (expr_view operand.now) l
+        → Forms f (typed_call t (Operate op) (typed (expr_view operand.now) no_typed)) l)) }
+{
+    let none = fixed_form(alloc, 0)?;
+    match op {
+        Operation::Not => pair(alloc, form, &none, 1, 0, Gives::Nothing, Shape::Flat),
+        Operation::NotStrictlyFalse => pair(alloc, form, &none, 1, 0, Gives::Nothing, Shape::Flat),
+        Operation::Negate => pair(alloc, form, &none, 1, 0, Gives::Nothing, Shape::Flat),
+        Operation::Size => {
+            if !is_counted(operand) {
+                return pair(alloc, form, &none, 1, 0, Gives::Nothing, Shape::Flat);
+            }
+            if form.shape.is_text() {
+                return pair(alloc, form, &none, 1, 1, Gives::Nothing, Shape::Flat);
+            }
+            Ok(None)
+        }
+        Operation::Convert(kind) => converted_form(alloc, kind, form),
+        _ => Ok(None),
+    }
+}
+
+// Whether `size` counts bytes.
+fn is_counted(operand: &TypedExpr<'_>) -> bool
+    ensures { (s : Size) → counted_cost (kind (expr_view operand.now)) s
+        ≡ if result then most_of s else 0 }
+{
+    match operand.cel_type() {
+        CelType::Bool => false,
+        CelType::Int => false,
+        CelType::Uint => false,
+        CelType::Text => true,
+        CelType::Bytes => true,
+        CelType::List(_) => false,
+        CelType::Map(_, _) => false,
+    }
+}
+
+// The form of nothing with this length.
+fn fixed_form(alloc: Global, length: u64) -> Result<Form, AllocError>
+    ensures { IfOk result (λ f. formula_view f.formula.value ≡ fixed 0 length) }
+{
+    let formula = Rc::new(alloc, Formula::Fixed { cost: 0, length })?;
+    Ok(Form {
+        formula,
+        shape: Shape::Flat,
+    })
+}
+
+// The form of a conversion.
+fn converted_form(alloc: Global, kind: Conversion, form: &Form) -> Result<Option<Form>, AllocError>
+    ensures { IfOk result (λ found. IfSome found (λ f. (t : ValueType) (l : LimitsValue) (x : TypedTree)
+        → Forms form.now x l
+        → Forms f (typed_call t (Operate (operations.Convert kind)) (typed x no_typed)) l)) }
+{
+    let none = fixed_form(alloc, 0)?;
+    let digits = fixed_form(alloc, 20)?;
+    match kind {
+        Conversion::UintToInt => pair(alloc, form, &none, 1, 0, Gives::Nothing, Shape::Flat),
+        Conversion::IntToUint => pair(alloc, form, &none, 1, 0, Gives::Nothing, Shape::Flat),
+        Conversion::IntToText => {
+            if form.shape.is_flat() {
+                return pair(alloc, form, &digits, 21, 0, Gives::Sum, Shape::Text);
+            }
+            Ok(None)
+        }
+        Conversion::UintToText => {
+            if form.shape.is_flat() {
+                return pair(alloc, form, &digits, 21, 0, Gives::Sum, Shape::Text);
+            }
+            Ok(None)
+        }
+        Conversion::BytesToText => {
+            if form.shape.is_text() {
+                return pair(alloc, form, &none, 1, 1, Gives::First, Shape::Text);
+            }
+            Ok(None)
+        }
+        Conversion::TextToBytes => {
+            if form.shape.is_text() {
+                return pair(alloc, form, &none, 1, 1, Gives::First, Shape::Text);
+            }
+            Ok(None)
+        }
+    }
+}
+
+// The form of an operation on two operands.
+fn pair_form(
+    alloc: Global,
+    op: Operation,
+    first: &Form,
+    second: &Form,
+) -> Result<Option<Form>, AllocError>
+    ensures { IfOk result (λ found. IfSome found (λ f. (t : ValueType) (l : LimitsValue) (x y : TypedTree)
+        → Forms first.now x l → Forms second.now y l
+        → Forms f (typed_call t (Operate op) (typed x (typed y no_typed))) l)) }
+{
+    match op {
+        Operation::And => pair(alloc, first, second, 2, 0, Gives::Nothing, Shape::Flat),
+        Operation::Or => pair(alloc, first, second, 2, 0, Gives::Nothing, Shape::Flat),
+        Operation::Arithmetic(_) => pair(alloc, first, second, 1, 0, Gives::Nothing, Shape::Flat),
+        Operation::Compare(_) => {
+            if first.shape.is_scalar() && second.shape.is_scalar() {
+                return pair(alloc, first, second, 3, 1, Gives::Nothing, Shape::Flat);
+            }
+            Ok(None)
+        }
+        Operation::TestText(_) => {
+            if first.shape.is_scalar() && second.shape.is_scalar() {
+                return pair(alloc, first, second, 3, 1, Gives::Nothing, Shape::Flat);
+            }
+            Ok(None)
+        }
+        Operation::Concat => {
+            if first.shape.is_text() && second.shape.is_text() {
+                return pair(alloc, first, second, 1, 1, Gives::Sum, Shape::Text);
+            }
+            Ok(None)
+        }
+        Operation::ListIndex => match &first.shape {
+            Shape::Items(_, items) => {
+                pair(alloc, first, second, 1, 0, Gives::First, items.copy()?)
+            }
+            _ => Ok(None),
+        },
+        _ => Ok(None),
+    }
+}

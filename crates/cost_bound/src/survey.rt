@@ -1,0 +1,161 @@
+//! What is known of an expression before it is measured, for all sizes of the locals.
+
+ghost use Rattle.std.specs.Prelude.{◌≡◌, List, IfOk, IfSome};
+ghost use Rattle.attributes.specs.Limits.{LimitsValue};
+ghost use Rattle.cel_types.specs.Elaborated.{TypedTree, typed_call, typed_list};
+ghost use Rattle.cel_types.specs.View.{expr_view, loop_of};
+ghost use Rattle.cel_types.specs.steps.ExprViews.{exprs_view, parts_view};
+ghost use Rattle.cel_value.specs.Types.{ValueType};
+ghost use Rattle.cel_costs.specs.Sizes.{Size};
+ghost use Rattle.cost_bound.specs.steps.Memos.{Forms, HoldsForAll, MemoHolds, MemoHoldsEach, Says, known_view, memo_view};
+
+use crate::call_forms::call_form;
+use crate::form::{Form, leaf_form, list_form, local_form};
+use crate::known::{attribute_size, constant_size};
+use crate::loops::has_loop;
+use crate::memo::{Memo, with_part};
+use attributes::Limits;
+use cel_types::{TypedExpr, TypedLoop};
+use std::alloc::{AllocError, Global};
+use std::rc::Rc;
+
+/// The memo of a whole expression. Forms help only where turns measure an expression again and again.
+pub(crate) fn first_memo(
+    alloc: Global,
+    expr: &TypedExpr<'_>,
+    limits: &Limits,
+) -> Result<Memo, AllocError>
+    ensures { IfOk result (λ memo. HoldsForAll (memo_view memo) (expr_view expr.now) limits.now) }
+{
+    if has_loop(expr) {
+        return survey(alloc, expr, limits);
+    }
+    Ok(Memo::Unknown)
+}
+
+// The memo of an expression, with the forms of the largest expressions in it that have one.
+#[cycle(survey)]
+fn survey(alloc: Global, expr: &TypedExpr<'_>, limits: &Limits) -> Result<Memo, AllocError>
+    ensures { IfOk result (λ memo. HoldsForAll (memo_view memo) (expr_view expr.now) limits.now) }
+{
+    match expr {
+        TypedExpr::Constant { value, .. } => kept_as(
+            alloc,
+            leaf_form(alloc, &constant_size(value))?,
+        ),
+        TypedExpr::Local { cel_type, outside } => {
+            kept_as(alloc, Some(local_form(alloc, cel_type, *outside)?))
+        }
+        TypedExpr::Attribute { id, .. } => {
+            kept_as(
+                alloc,
+                leaf_form(alloc, &attribute_size(alloc, limits, *id)?)?,
+            )
+        }
+        TypedExpr::Field { map, .. } => {
+            let found = survey(alloc, map, limits)?;
+            Ok(Memo::of_parts(with_part(Vec::new(alloc), 0, found)?))
+        }
+        TypedExpr::HasField { map, .. } => {
+            let found = survey(alloc, map, limits)?;
+            Ok(Memo::of_parts(with_part(Vec::new(alloc), 0, found)?))
+        }
+        TypedExpr::Call {
+            overload,
+            operands,
+            ..
+        } => {
+            let parts = survey_each(alloc, operands, limits)?;
+            let form = call_form(alloc, *overload, operands, &parts)?;
+            form_or(alloc, form, parts)
+        }
+        TypedExpr::List { elements, .. } => {
+            let parts = survey_each(alloc, elements, limits)?;
+            let form = list_form(alloc, elements, &parts)?;
+            form_or(alloc, form, parts)
+        }
+        TypedExpr::Map { pairs, .. } => survey_each(alloc, pairs, limits),
+        TypedExpr::Loop { parts, .. } => survey_loop(alloc, parts, limits),
+    }
+}
+
+// Expressions in order: their memos are those of parts.
+#[cycle(survey)]
+fn survey_each(alloc: Global, exprs: &[TypedExpr<'_>], limits: &Limits) -> Result<Memo, AllocError>
+    ensures { IfOk result (λ memo. ((e : TypedTree) (l : LimitsValue) (sizes : List Size)
+        → Says (memo_view memo) e l sizes) × ((sizes : List Size)
+        → MemoHoldsEach (memo_view memo) 0 (exprs_view exprs.now) limits.now sizes)) }
+{
+    let mut parts = Vec::new(alloc);
+    let mut place = 0;
+    for expr in exprs {
+        let found = survey(alloc, expr, limits)?;
+        parts = with_part(parts, place, found)?;
+        place += 1;
+    }
+    Ok(Memo::of_parts(parts))
+}
+
+// A loop: the memos of its parts.
+#[cycle(survey)]
+fn survey_loop(alloc: Global, parts: &TypedLoop<'_>, limits: &Limits) -> Result<Memo, AllocError>
+    ensures { (t : ValueType) → IfOk result (λ memo. HoldsForAll (memo_view memo)
+        (loop_of t (parts_view parts.now)) limits.now) }
+{
+    let range = survey(alloc, &parts.range, limits)?;
+    let one = with_part(Vec::new(alloc), 0, range)?;
+    let init = survey(alloc, &parts.init, limits)?;
+    let two = with_part(one, 1, init)?;
+    let condition = survey(alloc, &parts.condition, limits)?;
+    let three = with_part(two, 2, condition)?;
+    let step = survey(alloc, &parts.step, limits)?;
+    let four = with_part(three, 3, step)?;
+    let end = survey(alloc, &parts.result, limits)?;
+    let five = with_part(four, 4, end)?;
+    Ok(Memo::of_parts(five))
+}
+
+// The memo with a form, if there is one.
+fn kept_as(alloc: Global, found: Option<Form>) -> Result<Memo, AllocError>
+    ensures { (e : TypedTree) (l : LimitsValue) → IfSome found (λ f. Forms f e l)
+        → IfOk result (λ memo. HoldsForAll (memo_view memo) e l) }
+{
+    match found {
+        Some(form) => Ok(Memo::Formed(Rc::new(alloc, form)?)),
+        None => Ok(Memo::Unknown),
+    }
+}
+
+// The same, or else the memo of the parts.
+fn form_or(alloc: Global, found: Option<Form>, parts: Memo) -> Result<Memo, AllocError>
+    ensures { (e : TypedTree) (l : LimitsValue) → IfSome found (λ f. Forms f e l)
+        → HoldsForAll (memo_view parts) e l → IfOk result (λ memo. HoldsForAll (memo_view memo) e l) }
+{
+    match found {
+        Some(form) => Ok(Memo::Formed(Rc::new(alloc, form)?)),
+        None => Ok(parts),
+    }
+}
+
+/// What an outer memo says for all sizes of the locals, if it does.
+pub(crate) fn kept(memo: Option<&Memo>) -> Result<Option<Memo>, AllocError>
+    ensures { IfOk result (λ found. IfSome found (λ same. (e : TypedTree) (l : LimitsValue)
+        (sizes : List Size) → MemoHolds (known_view memo.entry) e l sizes
+        → HoldsForAll (memo_view same) e l)) }
+{
+    match memo {
+        Some(known) => kept_form(known),
+        None => Ok(None),
+    }
+}
+
+fn kept_form(memo: &Memo) -> Result<Option<Memo>, AllocError>
+    ensures { IfOk result (λ found. IfSome found (λ same. (e : TypedTree) (l : LimitsValue)
+        (sizes : List Size) → MemoHolds (memo_view memo.now) e l sizes
+        → HoldsForAll (memo_view same) e l)) }
+{
+    match memo {
+        Memo::Formed(form) => Ok(Some(Memo::Formed(form.clone()?))),
+        _ => Ok(None),
+    }
+}

@@ -1,0 +1,11 @@
+//! What people read of a refused policy file, of a refused response and of a head with a fault: the meaning, and the part that has
+//! the fault.
+#![tactic(auto)]
+
+mod meanings;
+mod refused_part;
+mod response_fault;
+
+pub use meanings::{meaning_of, rule_of};
+pub use refused_part::{Meaning, RefusedPart, StepsLeft};
+pub use response_fault::{ResponseFault, fault_in, reason_in};

@@ -1,0 +1,93 @@
+//! Requests by their parts, as a proxy has them (RFC 9112, sections 3 and 5; RFC 9113, section 8.3).
+ghost use Rattle.std.specs.Prelude.{◌≡◌, ◌<◌, IfErr, IfOk, IsOk, length};
+ghost use Rattle.attributes.specs.Conn.{conn_view};
+ghost use Rattle.http_front.specs.declared.fault.HeadPart.{HeadPart};
+ghost use Rattle.http_front.specs.Head.{head_room};
+ghost use Rattle.http_front.specs.Parts.{IsMalformedIn, PartsAsk, PartsFault, field_view, is_authority, is_host_of, line_name, parts_text, parts_view, spelled_head};
+
+use crate::closing::trim_ows;
+use crate::fault::HeadFault;
+use crate::read::{HeadAsk, read_head};
+use crate::spelled::Spelled;
+use attributes::{Conn, Limits, Request};
+use std::alloc::{AllocError, Global};
+
+/// A field: its name in any case, and its value. Its layout is C's, so that a list of fields from C is not copied.
+#[repr(C)]
+#[derive(Drop)]
+pub struct Line<'a> {
+    /// The name. `:authority` of HTTP/2 is the host.
+    pub name: &'a [u8],
+    /// The value. Spaces and tabs at its ends do not count.
+    pub value: &'a [u8],
+}
+
+/// The parts of a request.
+#[derive(Drop)]
+pub struct HeadParts<'a> {
+    /// The method.
+    pub method: &'a [u8],
+    /// The target, as a head of HTTP/1 has it: `:path` of HTTP/2.
+    pub target: &'a [u8],
+    /// True for HTTP/1.1 and later versions, which includes HTTP/2; false for HTTP/1.0.
+    pub is_http11: bool,
+    /// The fields in order, with the host as `host` or `:authority` and no other pseudo-header.
+    pub lines: &'a [Line<'a>],
+}
+
+/// The request of these parts on the connection `conn`, or its fault: what the head that they spell asks for. Their
+/// faults have the statuses 400, 431 and 501 of a head. If there are several faults, gives one of them.
+///
+/// `:authority` is a Host, and a Host of the same value beside it counts once. So two hosts are a fault, and in
+/// HTTP/1.1 none is. A part is malformed if a head cannot have it, such as a value with a line end.
+pub fn request_of_parts(
+    alloc: Global,
+    limits: &Limits,
+    conn: Conn,
+    parts: &HeadParts<'_>,
+) -> Result<Result<Request, HeadFault>, AllocError>
+    ensures request { IfOk result (λ found.
+        IfOk found (PartsAsk (parts_view parts.now) limits.now (conn_view conn))) }
+    ensures fault { IfOk result (λ found.
+        IfErr found (PartsFault (parts_view parts.now) limits.now (conn_view conn))) }
+    ensures malformed { (part : HeadPart) → IsMalformedIn (spelled_head (parts_view parts.now)) part → IsOk result }
+    ensures long { head_room < length (parts_text (parts_view parts.now)) → IsOk result }
+{
+    let head = Spelled::of(parts);
+    let size = match head.size() {
+        Ok(size) => size,
+        Err(fault) => return Ok(Err(fault)),
+    };
+    let text = head.text(alloc, size)?;
+    match read_head(alloc, &text, limits, conn)? {
+        Some(HeadAsk::Judge(request)) => Ok(Ok(request)),
+        Some(HeadAsk::Fault(fault)) => Ok(Err(fault)),
+        None => unreachable!(),
+    }
+}
+
+impl<'a> Line<'a> {
+    /// Whether this is the host by its name in HTTP/2.
+    pub(crate) fn is_authority(&self) -> bool
+        ensures { result ≡ is_authority self.now.name.now }
+    {
+        self.name.eq_ignore_ascii_case(b":authority")
+    }
+
+    /// Whether this is a Host with this value.
+    pub(crate) fn is_host_of(&self, value: &[u8]) -> bool
+        ensures { result ≡ is_host_of value.now (field_view self.now) }
+    {
+        self.name.eq_ignore_ascii_case(b"host") && trim_ows(self.value) == trim_ows(value)
+    }
+
+    /// The name under which a head has the field.
+    pub(crate) fn head_name(&self) -> &[u8]
+        ensures { result.now ≡ line_name self.now.name.now }
+    {
+        if self.is_authority() {
+            return b"host";
+        }
+        self.name
+    }
+}

@@ -1,0 +1,22 @@
+use Rattle.std.proofs.Common.{inl, inr}
+use Rattle.program_jobs.proofs.reporting.end_report.Goals as goal
+
+pub returns-in-Ok : goal.returns-in-Ok
+returns-in-Ok g c =
+    let same = rw c.told.ensures at c.in-Ok.ensures.same in
+    record {
+      why = c.why-why.result;
+      printed = c.in-Ok.printed;
+      same = same;
+      left = inl (c.status.ensures, c.in-Ok.ensures.text, c.tell_below.ensures);
+    }
+
+pub returns-in-Err : goal.returns-in-Err
+returns-in-Err g c =
+    let (printed, same, part) = c.in-Err.ensures.part in
+    record {
+      why = c.why-why.result;
+      printed = printed;
+      same = rw c.told.ensures at same;
+      left = inr (c.tell_output.ensures, part);
+    }

@@ -1,0 +1,5 @@
+mod FactLemmas
+pub mod LineLemmas
+pub mod Names
+mod StandardFacts
+mod Writing

@@ -1,0 +1,72 @@
+-- The object of a facts file with a member of nearly each kind, so that a wrong row of the table or a wrong kind does not check.
+use Rattle.std.proofs.Common.{true, Some, None, codes, refl, lit<}
+use Rattle.attributes.specs.Conn.{Facts}
+use Rattle.attributes.specs.declared.address.Ip.TheVariants.{V4}
+use Rattle.attributes.proofs.StandardFacts.{addresses}
+use Rattle.serde_json.specs.Data.{boolean, number, unsigned, string, object, Members, no_members, member}
+use Rattle.serde_json.specs.Find.{get}
+use Rattle.program_texts.specs.Facts.{AreFacts, fact_row, name_of}
+use Rattle.program_texts.specs.declared.facts.Fact.{Fact}
+
+-- `{"connection.mtls": true, "destination.port": 443, "direct_remote_ip": "13.1.68.3", "source.address": "13.1.68.3:80"}`
+abbrev members : Members
+members =
+    member (codes "connection.mtls") (boolean true)
+    (member (codes "destination.port") (number (unsigned 443))
+    (member (codes "direct_remote_ip") (string (codes "13.1.68.3"))
+    (member (codes "source.address") (string (codes "13.1.68.3:80")) no_members)))
+
+-- what it tells: of what it does not name nothing is known, and the scheme is `http`
+abbrev pub facts : Facts
+facts = record {
+  source_address = Some (codes "13.1.68.3:80");
+  source_port = None;
+  destination_address = None;
+  destination_port = Some 443;
+  mtls = Some true;
+  connection_id = None;
+  requested_server_name = None;
+  tls_version = None;
+  subject_peer_certificate = None;
+  dns_san_peer_certificate = None;
+  uri_san_peer_certificate = None;
+  direct_remote_ip = Some (V4 218186755);
+  remote_ip = None;
+  destination_ip = None;
+  scheme = codes "http";
+}
+
+-- each fact is as its member says
+told : (fact : Fact) → (fact_row fact).1 (get (name_of fact) (object members)) facts
+told Fact.SourceAddress = refl
+told Fact.SourcePort = tt
+told Fact.DestinationAddress = tt
+told Fact.DestinationPort = (refl, lit< tt)
+told Fact.ConnectionMtls = refl
+told Fact.ConnectionId = tt
+told Fact.ConnectionRequestedServerName = tt
+told Fact.ConnectionTlsVersion = tt
+told Fact.ConnectionSubjectPeerCertificate = tt
+told Fact.ConnectionDnsSanPeerCertificate = tt
+told Fact.ConnectionUriSanPeerCertificate = tt
+told Fact.DirectRemoteIp = (codes "13.1.68.3", refl, addresses.dotted)
+told Fact.RemoteIp = tt
+told Fact.DestinationIp = tt
+told Fact.RequestScheme = (None, tt, refl)
+
+-- the object tells these facts
+pub are_facts : AreFacts (object members) facts
+are_facts = record {
+  names = (
+    members,
+    refl,
+    (
+      (Fact.ConnectionMtls, refl),
+      (
+        (Fact.DestinationPort, refl),
+        ((Fact.DirectRemoteIp, refl), ((Fact.SourceAddress, refl), tt)),
+      ),
+    ),
+  );
+  tells = told;
+}

@@ -1,0 +1,6 @@
+pub mod Facts
+pub mod InputLines
+pub mod Members
+pub mod Output
+pub mod Shown
+pub mod steps

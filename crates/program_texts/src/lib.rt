@@ -1,0 +1,19 @@
+//! The texts that the program reads and writes: members of JSON objects, facts of a connection, lines of an input, outputs.
+#![tactic(auto)]
+
+mod bad_facts;
+mod facts;
+mod input;
+mod line_fault;
+mod members;
+mod output;
+mod replay_fault;
+pub mod shown;
+
+pub use bad_facts::{cause_of_bad_facts, cause_of_bad_value};
+pub use facts::{FactsFault, conn_of, read_conn, read_facts};
+pub use input::read_some;
+pub use line_fault::LineFault;
+pub use members::{Misfit, is_among, items_at, number_at, number_or, require_names, str_at};
+pub use output::write_whole;
+pub use replay_fault::{ReplayFault, input_fault};

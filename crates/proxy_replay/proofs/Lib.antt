@@ -1,0 +1,2 @@
+mod ConfigurationLemmas
+mod ReplayLemmas

@@ -1,0 +1,4 @@
+pub mod Configuration
+pub mod Lines
+pub mod Replays
+pub mod steps

@@ -1,0 +1,11 @@
+//! Reads the configuration of a proxy, and replays events from lines.
+#![tactic(auto)]
+
+mod configuration;
+mod lines;
+pub mod replay;
+mod telling;
+
+pub use configuration::{ConfigTextFault, config_at, read_config};
+pub use lines::{LineEvent, line_event, line_text};
+pub use telling::{cause_of_bad_config, cause_of_bad_settings, config_text};

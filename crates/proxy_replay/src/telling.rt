@@ -1,0 +1,149 @@
+//! The texts on a configuration: its meaning, or its fault. No contract describes these texts.
+use crate::configuration::{CONFIG_NAMES, DEFAULT_BUDGET, FILTER_NAMES, LIMIT_NAMES, limit_at};
+use ads::Config;
+use attributes::{Limit, Limits};
+use program_texts::{Misfit, is_among, items_at, number_or, str_at};
+use serde_json::Value;
+use std::alloc::{AllocError, Global};
+
+/// The meaning of a configuration, in lines for its author.
+pub fn config_text(alloc: Global, config: &Config) -> Result<String, AllocError> {
+    let (node, cluster) = (config.node(), config.cluster());
+    let mut text = format!(in alloc; "node {node:?}\ncluster {cluster:?}\n")?;
+    for (name, budget) in config.filters() {
+        let name = name.as_str();
+        let line = format!(in alloc; "filter {name:?} budget {budget}\n")?;
+        text.push_str(line.as_str())?;
+    }
+    let limits = limits_text(alloc, config.limits())?;
+    text.push_str(limits.as_str())?;
+    Ok(text)
+}
+
+/// The line of the limits.
+fn limits_text(alloc: Global, limits: &Limits) -> Result<String, AllocError> {
+    let (fields, name, value) = (
+        limits.get(Limit::Fields),
+        limits.get(Limit::Name),
+        limits.get(Limit::Value),
+    );
+    let (method, target, text) = (
+        limits.get(Limit::Method),
+        limits.get(Limit::Target),
+        limits.get(Limit::Text),
+    );
+    format!(in alloc;
+        "limits fields {fields} name {name} value {value} method {method} target {target} text {text}\n"
+    )
+}
+
+/// Why a text is no configuration, in words for its author.
+pub fn cause_of_bad_config(alloc: Global, text: &[u8]) -> Result<String, AllocError> {
+    let value = match Value::from_slice(alloc, text) {
+        Ok(value) => value,
+        Err(error) => return format!(in alloc; "it is not a JSON text: {error}"),
+    };
+    cause_of_bad_settings(alloc, &value)
+}
+
+/// Why a JSON value is no configuration, in words for its author.
+pub fn cause_of_bad_settings(alloc: Global, value: &Value) -> Result<String, AllocError> {
+    if let Some(cause) = cause_of_names(alloc, value, &CONFIG_NAMES)? {
+        return Ok(cause);
+    }
+    for name in ["node", "cluster"] {
+        match str_at(value, name) {
+            Ok(text) if text.len() <= 256 => {}
+            Ok(_) => return format!(in alloc; "{name} has more than 256 bytes"),
+            Err(Misfit) => return format!(in alloc; "{name} is missing or not a text"),
+        }
+    }
+    if let Some(cause) = cause_of_limits(alloc, value)? {
+        return Ok(cause);
+    }
+    match items_at(value, "filters") {
+        Ok(items) => cause_of_filters(alloc, items),
+        Err(Misfit) => String::from_str(alloc, "filters is missing or not an array"),
+    }
+}
+
+/// Why the names of an object's members are not all among these.
+fn cause_of_names(
+    alloc: Global,
+    value: &Value,
+    names: &[&str],
+) -> Result<Option<String>, AllocError> {
+    let Some(members) = value.as_object() else {
+        return Ok(Some(String::from_str(alloc, "it is not a JSON object")?));
+    };
+    for name in members.keys() {
+        let name = name.as_str();
+        if !is_among(name, names) {
+            return Ok(Some(format!(in alloc; "there is no member {name:?}")?));
+        }
+    }
+    Ok(None)
+}
+
+/// The fault of declared limits, if they have one.
+fn cause_of_limits(alloc: Global, value: &Value) -> Result<Option<String>, AllocError> {
+    let Some(limits) = value.get("limits") else {
+        return Ok(None);
+    };
+    if let Some(cause) = cause_of_names(alloc, limits, &LIMIT_NAMES)? {
+        return Ok(Some(format!(in alloc; "limits: {cause}")?));
+    }
+    for (name, limit) in [
+        ("fields", Limit::Fields),
+        ("name", Limit::Name),
+        ("value", Limit::Value),
+        ("method", Limit::Method),
+        ("target", Limit::Target),
+        ("text", Limit::Text),
+    ] {
+        let greatest = Limits::largest().get(limit);
+        match limit_at(limits, name, limit) {
+            Ok(number) if number > 0 && number <= greatest => {}
+            _ => {
+                return Ok(Some(format!(in alloc;
+                    "the limit {name} is not a whole number from 1 to {greatest}"
+                )?));
+            }
+        }
+    }
+    Ok(None)
+}
+
+/// The fault of these filters.
+fn cause_of_filters(alloc: Global, items: &[Value]) -> Result<String, AllocError> {
+    let count = items.len();
+    if count == 0 || count > 8 {
+        return format!(in alloc; "there are {count} filters; there may be 1 to 8");
+    }
+    for (number, item) in items.iter().enumerate() {
+        if let Some(cause) = cause_of_filter(alloc, item)? {
+            return format!(in alloc; "filter {number}: {cause}");
+        }
+    }
+    String::from_str(alloc, "two filters have the same name")
+}
+
+/// The fault of this filter, if it has one.
+fn cause_of_filter(alloc: Global, item: &Value) -> Result<Option<String>, AllocError> {
+    if let Some(cause) = cause_of_names(alloc, item, &FILTER_NAMES)? {
+        return Ok(Some(cause));
+    }
+    match str_at(item, "name") {
+        Ok(name) if !name.is_empty() && name.len() <= 256 => {}
+        _ => {
+            return Ok(Some(String::from_str(alloc, "its name is not a text of 1 to 256 bytes")?));
+        }
+    }
+    match number_or(item, "budget", DEFAULT_BUDGET) {
+        Ok(budget) if budget > 0 && budget <= 100_000_000 => Ok(None),
+        _ => Ok(Some(String::from_str(
+            alloc,
+            "its budget is not a whole number from 1 to 100000000",
+        )?)),
+    }
+}

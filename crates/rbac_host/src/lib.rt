@@ -1,0 +1,18 @@
+//! A server as a process, over its sockets, its logs and its admin port.
+#![tactic(auto)]
+
+mod errors;
+mod front_faults;
+mod fronts;
+mod judgements;
+mod judging;
+mod mapped;
+mod network;
+mod observed;
+mod process;
+mod rule;
+mod setup;
+mod upkeep;
+mod words;
+
+pub use process::{HostFault, host};

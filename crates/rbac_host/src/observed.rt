@@ -1,0 +1,220 @@
+//! A worker whose events are counted, logged and recorded. None of that has an effect on its answers.
+
+use crate::words::{closed_of, word_of};
+use attributes::Conn;
+use host_logs::{Connections, Logs, Responses, Scene, micros, unix_millis, verdict_of};
+use http_front::Ask;
+use proxy_core::Told;
+use rbac_policy::Reason;
+use rbac_serve::{End, Fed, Heard, Judged, Loss, Sent, Service, Taken, Worker, judged_since};
+use serve_admin::{Admin, StreamStatus};
+use serve_log::{LogFiles, RecordPosition, Update, update_line};
+use std::alloc::{AllocError, Global};
+use std::io::{self, Write};
+use std::rt::Clock;
+
+/// The steps of one in so many decisions are counted.
+const STEPS_SAMPLE: u64 = 64;
+
+/// A worker whose events are counted, logged and recorded.
+#[derive(Drop)]
+pub(crate) struct Observed<'r, R: Clock, F: LogFiles + Drop> {
+    pub(crate) alloc: Global,
+    pub(crate) rt: &'r R,
+    pub(crate) worker: Worker,
+    pub(crate) connections: Connections,
+    pub(crate) responses: Responses,
+    pub(crate) admin: Admin,
+    pub(crate) logs: Logs<F>,
+    /// How many decisions were made since the steps of one were counted.
+    pub(crate) decisions: u64,
+    /// Why a connection could not be accepted, if that was not told yet.
+    pub(crate) refused: Option<io::Error>,
+}
+
+impl<R: Clock, F: LogFiles + Drop> Observed<'_, R, F> {
+    /// Counts and logs what was decided.
+    pub(crate) fn tell(&mut self, k: usize, told: &[Told], record: Option<&RecordPosition>) {
+        for told in told {
+            self.admin
+                .metrics
+                .decided(verdict_of(told.reply.case), &told.reply.matches);
+            self.decisions = self.decisions.saturating_add(1);
+            if self.decisions >= STEPS_SAMPLE {
+                self.decisions = 0;
+                self.count_steps(&told.ask);
+            }
+        }
+        let Some(accesses) = &mut self.logs.accesses else {
+            return;
+        };
+        let Some(connection) = self.connections.get(k) else {
+            return;
+        };
+        let scene = Scene {
+            time: unix_millis(self.rt),
+            connection,
+            client: self.worker.client(),
+            record,
+        };
+        for told in told {
+            accesses.tell(told, &scene);
+        }
+    }
+
+    // Counts the steps of the conditions that match, by trying the policies again.
+    fn count_steps(&mut self, ask: &Ask) {
+        let Ask::Judge(request, _) = ask else {
+            return;
+        };
+        for (filter, policies) in self.worker.client().policies().iter().enumerate() {
+            let Some(admitted) = policies else {
+                return;
+            };
+            let Ok(trials) = admitted.trials(request) else {
+                return;
+            };
+            for trial in &trials {
+                if let Reason::ConditionTrue { steps, .. } = trial.reason {
+                    self.admin.metrics.steps(filter, steps);
+                }
+            }
+        }
+    }
+
+    /// Logs what happened to the update stream.
+    pub(crate) fn log_update(&mut self, update: &Update<'_>) {
+        if let Ok(line) = update_line(self.alloc, unix_millis(self.rt), update) {
+            self.logs.updates.line(line.as_str());
+        }
+    }
+
+    // The update stream is down, for this reason.
+    fn note_loss(&mut self, reason: &str) {
+        self.admin.metrics.stream(false);
+        if let Ok(why) = String::from_str(self.alloc, reason) {
+            self.admin.status.stream = StreamStatus::Down {
+                since: unix_millis(self.rt),
+                why,
+            };
+        }
+    }
+}
+
+impl<R: Clock, F: LogFiles + Drop> Service for Observed<'_, R, F> {
+    fn places(&self) -> usize {
+        self.worker.places()
+    }
+
+    fn open(&mut self, k: usize, conn: &Conn) -> Result<bool, AllocError> {
+        self.admin.metrics.accepted();
+        let closes = self.worker.open(k, conn)?;
+        let number = self.connections.open(k, conn)?;
+        self.admin.metrics.opened();
+        if let Some(recorder) = &mut self.logs.recorder {
+            recorder.opened(k, number, conn);
+        }
+        Ok(closes)
+    }
+
+    fn bytes(&mut self, k: usize, bytes: &[u8]) -> Result<Heard, AllocError> {
+        let answered = self.worker.bytes(k, bytes)?;
+        let record = match &mut self.logs.recorder {
+            Some(recorder) => recorder.received(k, bytes, self.worker.is_fresh(k)),
+            None => None,
+        };
+        self.tell(k, &answered.told, record.as_ref());
+        Ok(Heard {
+            rests: self.worker.is_fresh(k),
+            answers: !answered.told.is_empty(),
+            closes: answered.closes,
+        })
+    }
+
+    fn close(&mut self, k: usize, end: End) {
+        self.worker.close(k);
+        if self.connections.close(k) {
+            self.admin.metrics.closed(closed_of(end));
+            if let Some(recorder) = &mut self.logs.recorder {
+                recorder.closed(k);
+            }
+        }
+    }
+
+    fn refused(&mut self, cause: io::Error) {
+        self.admin.metrics.refused_connection();
+        self.refused = Some(cause);
+    }
+
+    fn waiting(&self, k: usize) -> usize {
+        self.worker.waiting(k)
+    }
+
+    fn send<W: Write>(&mut self, k: usize, stream: &mut W) -> Sent {
+        self.worker.send(k, stream)
+    }
+
+    fn up(&mut self) -> Result<(), AllocError> {
+        self.worker.up()?;
+        self.responses.clear();
+        if let Some(recorder) = &mut self.logs.recorder {
+            recorder.up();
+        }
+        self.admin.metrics.stream(true);
+        self.admin.status.stream = StreamStatus::Up {
+            since: unix_millis(self.rt),
+        };
+        self.log_update(&Update::Up);
+        Ok(())
+    }
+
+    fn feed(&mut self, bytes: &[u8]) -> Result<Taken, AllocError> {
+        let before = self.worker.client().generation();
+        let began = micros(self.rt);
+        let Fed { count, closes } = self.worker.feed(bytes)?;
+        let taken = micros(self.rt).saturating_sub(began);
+        let response = judged_since(&self.worker, before);
+        self.observe(bytes.get(..count).unwrap_or(&[]), response, taken);
+        Ok(Taken {
+            count,
+            response,
+            closes,
+        })
+    }
+
+    fn lost(&mut self, loss: Loss) {
+        self.worker.lost();
+        self.responses.clear();
+        // of a stream that was never up the network knows the cause
+        if loss != Loss::Unreachable {
+            if let Some(recorder) = &mut self.logs.recorder {
+                recorder.lost();
+            }
+            self.log_update(&Update::Lost(word_of(loss)));
+        }
+        self.note_loss(word_of(loss));
+    }
+
+    fn has_request(&self) -> bool {
+        self.worker.has_request()
+    }
+
+    fn send_request<W: Write>(&mut self, stream: &mut W) -> Sent {
+        self.worker.send_request(stream)
+    }
+}
+
+impl<R: Clock, F: LogFiles + Drop> Observed<'_, R, F> {
+    // Counts, logs and records bytes of the update stream, and the judgement of the response that they complete.
+    fn observe(&mut self, bytes: &[u8], response: Option<Judged>, taken: u64) {
+        self.responses.keep(bytes);
+        match response {
+            Some(judged) => self.note_judgement(bytes, judged, taken),
+            None => {
+                if let Some(recorder) = &mut self.logs.recorder {
+                    recorder.fed(bytes, &serve_log::Fed::Partial);
+                }
+            }
+        }
+    }
+}

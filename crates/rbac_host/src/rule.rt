@@ -1,0 +1,80 @@
+//! How the requests of a front proxy tell those of its clients.
+
+use crate::front_faults::{meaning_of_map_fault, meaning_of_path_fault};
+use fault_texts::rule_of;
+use head_map::{MapFault, Mapping, Parts, PathFault, mapped_of, path_is_strict};
+use host_logs::Unjudged;
+use http_front::{Case, HeadFault, HeadPart};
+use serve_config::{Paths, ServeConfig};
+use std::alloc::{AllocError, Global};
+
+/// How the requests of a front proxy tell those of its clients.
+#[derive(Clone, Copy)]
+pub(crate) struct Rule<'m> {
+    mapping: &'m Mapping,
+    paths: Paths,
+}
+
+impl<'m> Rule<'m> {
+    /// The rule of these settings; none if each request is judged as it was sent.
+    pub(crate) fn of(settings: &'m ServeConfig) -> Option<Rule<'m>> {
+        let mapping = &settings.mapping;
+        let paths = settings.paths;
+        let is_empty = mapping.named().is_empty() && mapping.required().is_empty();
+        if is_empty && paths == Paths::AsSent {
+            return None;
+        }
+        Some(Rule { mapping, paths })
+    }
+
+    /// The request of the client, as this one of its front tells it.
+    pub(crate) fn client_of(
+        self,
+        alloc: Global,
+        parts: Parts,
+    ) -> Result<Result<Parts, Unjudged>, AllocError> {
+        let client = match mapped_of(alloc, self.mapping, parts)? {
+            Ok(client) => client,
+            Err(fault) => return Ok(Err(unjudged_fields(fault))),
+        };
+        match self.fault_of(client.target.as_str()) {
+            Some(fault) => Ok(Err(unjudged_path(fault, client))),
+            None => Ok(Ok(client)),
+        }
+    }
+
+    // The fault of a target, if paths are to have none.
+    fn fault_of(self, target: &str) -> Option<PathFault> {
+        match self.paths {
+            Paths::AsSent => None,
+            Paths::Strict => path_is_strict(target),
+        }
+    }
+}
+
+/// A request of a front proxy whose bytes have this fault.
+pub(crate) fn unjudged_head(fault: HeadFault) -> Unjudged {
+    Unjudged {
+        case: Case::Fault(fault),
+        reason: rule_of(fault),
+        client: None,
+    }
+}
+
+// A request of a front proxy whose fields have this fault.
+fn unjudged_fields(fault: MapFault) -> Unjudged {
+    Unjudged {
+        case: Case::Fault(HeadFault::Malformed(HeadPart::FieldValue)),
+        reason: meaning_of_map_fault(fault),
+        client: None,
+    }
+}
+
+// A client's request whose path has this fault.
+fn unjudged_path(fault: PathFault, client: Parts) -> Unjudged {
+    Unjudged {
+        case: Case::Fault(HeadFault::Malformed(HeadPart::Target)),
+        reason: meaning_of_path_fault(fault),
+        client: Some(client),
+    }
+}

@@ -1,0 +1,5 @@
+pub mod InputLemmas
+pub mod JudgeLemmas
+mod HeadLines
+mod JsonLemmas
+mod BatchLemmas

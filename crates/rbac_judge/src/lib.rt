@@ -1,0 +1,20 @@
+//! Judges a request head, or a batch of heads, by the bytes of a policy file and the facts of a connection, and reports the
+//! outcome in words or as JSON.
+#![tactic(auto)]
+
+mod bad_heads;
+pub mod batch;
+mod error_place;
+mod explain;
+mod head_lines;
+mod input;
+mod json;
+pub mod judge;
+mod notes;
+mod outcome;
+
+pub use error_place::place_of_error;
+pub use explain::{Explanation, OwnTrial, untold_text};
+pub use json::Why;
+pub use notes::{Likeness, Notes};
+pub use outcome::{Outcome, Report};

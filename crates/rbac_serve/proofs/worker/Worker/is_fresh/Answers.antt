@@ -1,0 +1,23 @@
+use Rattle.std.proofs.Common.{◌≡◌, ◌∙◌, Option, Some}
+use Rattle.http_front.specs.Front.{FrontValue}
+use Rattle.rbac_serve.specs.Tables.{IsFresh}
+use Rattle.rbac_serve.proofs.PlaceLemmas.{session_at, some_there}
+use Rattle.rbac_serve.proofs.worker.Worker.is_fresh.Goals as goal
+
+-- the connection is the one in the place
+fresh_there : (o : Option FrontValue) (f : FrontValue) → o ≡ Some f → IsFresh (Some f) → IsFresh o
+fresh_there o f is fresh = rw is fresh
+
+fresh_here : (o : Option FrontValue) (f : FrontValue) → o ≡ Some f → IsFresh o → IsFresh (Some f)
+fresh_here o f is fresh = rw is at fresh
+
+pub returns-in-Some-session : goal.returns-in-Some-session
+returns-in-Some-session c =
+    let gs = c.args.self.now.guests.items in
+    let guest = c.in-Some.guest.now in
+    let found = rw c.deref.ensures.value at c.in-Some.ensures.lookup in
+    let there = some_there gs c.args.k guest guest found.3.0 (found.3.1 guest) in
+    let is = session_at gs c.args.k guest there ∙ c.in-Some-session.is in (
+      λ so. fresh_there _ c.in-Some-session.session is (c.is_fresh.ensures.0 so),
+      λ fresh. c.is_fresh.ensures.1 (fresh_here _ c.in-Some-session.session is fresh),
+    )

@@ -1,5 +1,0 @@
-use Rattle.rbacd.proofs.batch.facts_or.Goals as goal
-
-pub returns-in-Err-Bad-clause-fault : goal.returns-in-Err-Bad-clause-fault
-returns-in-Err-Bad-clause-fault c = λ bad facts told.
-    c.in-Err-Bad.ensures.fault c.in-Err-Bad.field-0-is facts (rw (← c.in-Some.ensures) at told)

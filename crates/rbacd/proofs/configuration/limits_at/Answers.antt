@@ -1,4 +1,0 @@
-use Rattle.rbacd.proofs.configuration.limits_at.Goals as goal
-
-pub returns-in-Some-clause-fault : goal.returns-in-Some-clause-fault
-returns-in-Some-clause-fault c = rw (← c.in-Some.ensures) c.declared_limits.ensures.fault

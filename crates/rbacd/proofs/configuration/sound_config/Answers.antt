@@ -1,9 +1,0 @@
-use Rattle.std.proofs.Common.{inl, inr}
-use Rattle.rbacd.proofs.ConfigurationLemmas.{at_fault}
-use Rattle.rbacd.proofs.configuration.sound_config.Goals as goal
-
-pub returns-in-Err-clause-fault : goal.returns-in-Err-clause-fault
-returns-in-Err-clause-fault c = λ bad sound. elim c.in-Err.ensures.fault [
-  | inl memory ↦ c.text_fault.ensures bad memory
-  | inr fault ↦ at_fault _ _ fault sound
-]

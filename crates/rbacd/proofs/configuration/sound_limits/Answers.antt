@@ -1,7 +1,0 @@
-use Rattle.attributes.proofs.LimitFaults.{none_all}
-use Rattle.rbacd.proofs.configuration.sound_limits.Goals as goal
-
-pub returns-in-Err-clause-fault : goal.returns-in-Err-clause-fault
-returns-in-Err-clause-fault c = λ are.
-    let none = (none_all _).1 are in
-    let some = c.in-Err.ensures.fault in cc

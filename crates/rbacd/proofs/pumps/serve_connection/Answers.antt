@@ -1,9 +1,0 @@
-use Rattle.rbacd.proofs.PumpLemmas.{closing_told}
-use Rattle.rbacd.proofs.pumps.serve_connection.Goals as goal
-
-pub returns : goal.returns
-returns g c = record {
-  between = _;
-  hears = c.hear-end.ensures;
-  closes = closing_told c.step.result _ _ c.step.ensures.found (c.step.ensures.sure tt);
-}

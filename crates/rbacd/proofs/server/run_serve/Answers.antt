@@ -1,0 +1,19 @@
+use Rattle.rbacd.specs.Run.{EndsServe}
+use Rattle.rbacd.proofs.Ends.{end_of_serve}
+use Rattle.rbacd.proofs.server.run_serve.Goals as goal
+
+pub returns-then-not-words : goal.returns-then-not-words
+returns-then-not-words g c =
+    let (text, read) = rw c.as_str.ensures.value at c.in-Ok.ensures.found in
+    EndsServe.served text read (λ is_so. (let not = c.if-not-words.true in cc)) c.served.ensures
+
+pub returns-in-Ok-setup_text : goal.returns-in-Ok-setup_text
+returns-in-Ok-setup_text g c =
+    let (text, read) = rw c.as_str.ensures.value at c.in-Ok.ensures.found in
+    EndsServe.meant text _ read (let is_so = c.if-not-words.false in cc) c.show.ensures
+
+pub returns : goal.returns
+returns g c =
+    let (told, same, left) = c.end_by.ensures in
+    let fault = rw c.as_str.ensures.value at c.in-Err.ensures.fault in
+    end_of_serve _ _ _ _ _ _ _ _ _ c.in-Err.fault told fault same left

@@ -1,8 +1,0 @@
-use Rattle.clap.specs.Words.{found_of, rows_of}
-use Rattle.rbacd.proofs.WordLemmas.{of_replay}
-use Rattle.rbacd.specs.Words.{IsJobOfRows}
-use Rattle.rbacd.proofs.words.replay_job.Goals as goal
-
-pub returns-in-None-clause-none : goal.returns-in-None-clause-none
-returns-in-None-clause-none c = of_replay (λ job. ¬ (IsJobOfRows (rows_of (found_of c.args.matches.now)) job)) (λ config held.
-    let none = rw c.in-None.is at c.in_ok-config.ensures in cc)

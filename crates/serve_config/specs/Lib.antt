@@ -1,0 +1,5 @@
+pub mod Addresses
+pub mod Members
+pub mod Maps
+pub mod Settings
+pub mod steps

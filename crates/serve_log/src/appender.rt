@@ -1,0 +1,80 @@
+//! A writer of lines, and the lines that wait for it.
+
+use crate::faults::{Fault, Faults};
+use crate::waiting::{Waiting, Written};
+use std::alloc::Global;
+use std::io::Write;
+
+/// How long no write is tried after one failed, in milliseconds.
+const PAUSE: u64 = 1_000;
+
+/// A writer of lines, and the lines that wait for it.
+#[derive(Drop)]
+pub(crate) struct Appender<W: Drop> {
+    writer: W,
+    waiting: Waiting,
+    now: u64,
+    // no write is tried before this time
+    paused_until: u64,
+}
+
+impl<W: Write + Drop> Appender<W> {
+    /// No line waits for this writer.
+    pub(crate) fn new(alloc: Global, writer: W) -> Appender<W> {
+        Appender {
+            writer,
+            waiting: Waiting::new(alloc),
+            now: 0,
+            paused_until: 0,
+        }
+    }
+
+    /// The lines that wait.
+    pub(crate) fn waiting(&self) -> &Waiting {
+        &self.waiting
+    }
+
+    /// Adds a line to those that wait.
+    pub(crate) fn line(&mut self, text: &str) -> Result<(), Fault> {
+        Ok(self.waiting.line(text)?)
+    }
+
+    /// Writes once, if lines wait; not within a second after a write failed.
+    pub(crate) fn flush(&mut self, now: u64, faults: &mut Faults) {
+        self.now = now;
+        self.write(faults);
+    }
+
+    /// The same, at the time of the last `flush`.
+    pub(crate) fn write(&mut self, faults: &mut Faults) {
+        if self.now < self.paused_until {
+            return;
+        }
+        if let Err(fault) = self.try_write() {
+            self.paused_until = self.now.saturating_add(PAUSE);
+            faults.note(fault);
+        }
+    }
+
+    /// Writes once, if lines wait.
+    pub(crate) fn try_write(&mut self) -> Result<(), Fault> {
+        match self.waiting.write(&mut self.writer) {
+            Written::All | Written::Part => Ok(()),
+            Written::Failed(error) => Err(Fault::Failed(error)),
+        }
+    }
+
+    /// Goes on with another writer. If a line is half written, the rest of it is written once more or lost.
+    pub(crate) fn change(&mut self, writer: W, faults: &mut Faults) {
+        if self.waiting.is_half() {
+            if let Err(fault) = self.try_write() {
+                faults.note(fault);
+            }
+        }
+        if self.waiting.drop_half() {
+            faults.lose(1);
+        }
+        self.writer = writer;
+        self.paused_until = 0;
+    }
+}

@@ -1,0 +1,32 @@
+//! The sockets of a server: its listeners, its admin port, its control plane, and the end of its standard input.
+//!
+//! Nothing here waits but `Sockets::wait`. Events come at changes alone. So whoever uses a stream or a listener that is
+//! ready goes on until it says `WouldBlock`.
+#![tactic(auto)]
+
+mod accepted;
+mod control;
+mod event;
+mod fault;
+mod file;
+mod frame;
+mod inherited;
+mod input;
+mod listeners;
+mod places;
+mod sockets;
+mod stream;
+mod tcp;
+mod turn;
+mod unblocked;
+mod unix_path;
+
+pub use accepted::Accepted;
+pub use event::Ready;
+pub use fault::OpenFault;
+pub use file::{FileStream, MOST_CONTENTS};
+pub use places::Places;
+pub use sockets::Sockets;
+pub use stream::NetStream;
+pub use tcp::TcpLink;
+pub use unblocked::unblock;

@@ -1,0 +1,3 @@
+mod PumpLemmas
+mod ControlPumpLemmas
+pub mod RoundLemmas

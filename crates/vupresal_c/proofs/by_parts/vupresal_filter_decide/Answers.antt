@@ -1,0 +1,19 @@
+use Rattle.std.proofs.Common.{rules, ◌≡◌, ◌∙◌, refl, sym, arith, to_z, of_z, to_z-of_z, w32}
+use Rattle.c_inputs.specs.Facts.{facts_given}
+use Rattle.vupresal_c.specs.Decisions.{AsksByParts, parts_given}
+use Rattle.vupresal_c.specs.declared.fault.Fault.TheVariants.{Empty}
+use Rattle.vupresal_c.proofs.Deciding.{decided}
+use Rattle.vupresal_c.proofs.by_parts.vupresal_filter_decide.Goals as goal
+
+pub returns-in-None-clause-fault : goal.returns-in-None-clause-fault
+returns-in-None-clause-fault c =
+    let same : to_z w32 (of_z w32 c.answered-in-None.result) ≡ c.answered-in-None.result = grind (arith, to_z-of_z) in
+    λ _. (Empty, rw c.in-None.ensures.taken refl, same ∙ c.answered-in-None.ensures.fault.0)
+
+pub returns-in-Some-clause-found : goal.returns-in-Some-clause-found
+returns-in-Some-clause-found c =
+    let same : to_z w32 (of_z w32 c.answered.result) ≡ c.answered.result = search rules in
+    λ is. rw c.in-Some.ensures.taken (decided c.decide_parts-answer.result
+    (AsksByParts (parts_given c.args.request.now) (facts_given c.args.facts.now)) c.in-Some.admitted.value _ _
+    c.answered.ensures.found c.answered.ensures.fault (rw c.deref.ensures at c.decide_parts-answer.ensures.found)
+    (sym same ∙ is))

@@ -1,0 +1,106 @@
+-- Decisions for C (this project's own): the verdict on the request that is asked for, and why there is none.
+use Rattle.std.specs.Prelude.{◌≡◌, ℕ, Bool, true, false, List, Option, Some, None, if◌then◌else◌, map}
+use Rattle.attributes.specs.Conn.{Facts}
+use Rattle.attributes.specs.Limits.{LimitsValue}
+use Rattle.attributes.specs.Request.{RequestValue}
+use Rattle.c_inputs.specs.Facts.{AreTexts}
+use Rattle.cel_tree.specs.Checked.{CelChecked}
+use Rattle.http_front.specs.Asks.{HasFault, HeadAsks, IsUnfinished}
+use Rattle.http_front.specs.Parts.{PartsAsk, PartsFault, PartsValue, field_view}
+use Rattle.http_front.specs.declared.fault.HeadFault.{HeadFault}
+use Rattle.proto_wire.specs.declared.refusal.Refusal.{Refusal}
+use Rattle.rbac_policy.specs.Admission.{IsAdmittedAs}
+use Rattle.rbac_policy.specs.Admitted.{filter_view, limits_view}
+use Rattle.rbac_policy.specs.Condition.{is_met}
+use Rattle.rbac_policy.specs.Filter.{Filter}
+use Rattle.rbac_policy.specs.Verdict.{IsVerdict}
+use Rattle.rbac_policy.specs.declared.filter.Admitted.{Admitted}
+use Rattle.rbac_policy.specs.declared.filter.Verdict.{Verdict}
+use Rattle.vupresal_c.specs.declared.decision.Decision.{Decision}
+use Rattle.vupresal_c.specs.declared.request.RequestInput.{RequestInput}
+use Rattle.vupresal_c.specs.declared.fault.Fault.{Fault}
+use Rattle.vupresal_c.specs.declared.fault.Fault.TheVariants.{Empty, OutOfRange, Refused, OutOfSteps, BadFacts, Unfinished, Head}
+
+-- ---- decisions
+
+-- the number of the policy that matches, if one does
+abbrev pub matched_in : Decision → Option ℕ
+matched_in d = if d.is_matched then Some d.matched else None
+
+-- the decision that refuses, and names no policy
+abbrev pub refused : Decision
+refused = record { matched = 0; is_matched = false; is_allowed = false }
+
+-- the decision of a verdict
+abbrev pub decision_with : Bool → Option ℕ → Decision
+decision_with allowed (Some k) = record { matched = k; is_matched = true; is_allowed = allowed }
+decision_with allowed None = record { matched = 0; is_matched = false; is_allowed = allowed }
+
+abbrev pub decision_of : Verdict → Decision
+decision_of v = decision_with v.allowed v.matched
+
+-- ---- the request that is asked for
+
+-- the parts of a request as they are given
+abbrev pub parts_given : RequestInput → PartsValue
+parts_given r = record {
+  method = r.method.now;
+  target = r.target.now;
+  http11 = r.is_http11;
+  fields = map field_view r.lines.now;
+}
+
+-- which requests are asked for, within these limits
+abbrev pub Asking : Type 1
+Asking = LimitsValue → RequestValue → Type 0
+
+-- the head asks for the request
+abbrev pub AsksByHead : List ℕ → Facts → Asking
+AsksByHead head facts limits r = HeadAsks head limits facts r
+
+-- the parts ask for the request
+abbrev pub AsksByParts : PartsValue → Facts → Asking
+AsksByParts parts facts limits r = PartsAsk parts limits facts r
+
+-- the verdict of every written filter that may be enforced as this one
+abbrev pub Judges : Admitted → RequestValue → Bool → Option ℕ → Type 0
+Judges a r allowed matched = (filter : Filter CelChecked) → IsAdmittedAs (limits_view a) filter (filter_view a)
+    → IsVerdict (is_met r) r filter allowed matched
+
+-- the verdict on a request that is asked for
+abbrev pub IsAnswer : Asking → Admitted → Verdict → Type 0
+IsAnswer Asks a v = (r : RequestValue) × Asks (limits_view a) r × Judges a r v.allowed v.matched
+
+-- the decision on a request that is asked for
+abbrev pub IsDecision : Asking → Admitted → Decision → Type 0
+IsDecision Asks a d = (r : RequestValue) × Asks (limits_view a) r × Judges a r d.is_allowed (matched_in d)
+
+-- ---- why there is no decision
+
+-- no bytes were admitted as this filter; so this is never the case
+abbrev pub WasNeverAdmitted : Admitted → Type 0
+WasNeverAdmitted a = (filter : Filter CelChecked) → IsAdmittedAs (limits_view a) filter (filter_view a) → ⊥
+
+-- the filter has no decision, with this fault. `Has` says which faults the request has within these limits, and
+-- `IsOpen` that its bytes are no whole head yet
+abbrev pub FailsFor : (LimitsValue → HeadFault → Type 0) → Type 0 → Facts → Admitted → Fault → Type 0
+FailsFor Has IsOpen facts a Empty = ⊥
+FailsFor Has IsOpen facts a OutOfRange = ⊥
+FailsFor Has IsOpen facts a (Refused refusal) = refusal ≡ Refusal.Memory
+FailsFor Has IsOpen facts a OutOfSteps = WasNeverAdmitted a
+FailsFor Has IsOpen facts a BadFacts = AreTexts facts → ⊥
+FailsFor Has IsOpen facts a Unfinished = IsOpen
+FailsFor Has IsOpen facts a (Head fault) = Has (limits_view a) fault
+
+-- the filter has no decision on a head, with this fault
+abbrev pub HeadFailsFor : List ℕ → Facts → Admitted → Fault → Type 0
+HeadFailsFor head facts = FailsFor (λ limits fault. HasFault head limits facts fault) (IsUnfinished head) facts
+
+-- the filter has no decision on a request by its parts, with this fault
+abbrev pub PartsFailFor : PartsValue → Facts → Admitted → Fault → Type 0
+PartsFailFor parts facts = FailsFor (λ limits fault. PartsFault parts limits facts fault) ⊥ facts
+
+-- there is no decision: the handle is empty, or its filter has none
+abbrev pub Fails : Option Admitted → (Admitted → Fault → Type 0) → Fault → Type 0
+Fails None For e = e ≡ Empty
+Fails (Some a) For e = For a e

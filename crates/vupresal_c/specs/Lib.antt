@@ -1,0 +1,10 @@
+pub mod Statuses
+pub mod Handles
+pub mod Admission
+pub mod Decisions
+pub mod Queries
+pub mod Copies
+pub mod Settings
+pub mod Steps
+pub mod Outputs
+pub mod Version

@@ -1,0 +1,64 @@
+-- The settings of a proxy for C (this project's own): the configuration that they are, and why they are none.
+use Rattle.std.specs.Prelude.{◌≡◌, ◌⊎◌, List, Some, None, IsSomeAnd, map}
+use Rattle.std.specs.List.{AllByRecursion}
+use Rattle.std.specs.Str.{IsUtf8}
+use Rattle.ads.specs.Config.{ConfigValue, FilterValue, IsAtFault}
+use Rattle.ads.specs.declared.config.ConfigFault.{ConfigFault}
+use Rattle.attributes.specs.Limits.{LimitsValue}
+use Rattle.c_inputs.specs.Bounds.{limits_given}
+use Rattle.proto_wire.specs.declared.refusal.Refusal.{Refusal}
+use Rattle.proxy_core.specs.Events.{no_output, output_view}
+use Rattle.proxy_core.specs.Proxies.{proxy_view}
+use Rattle.proxy_core.specs.Step.{new_proxy}
+use Rattle.c_slots.specs.declared.proxy_slot.Core.{Core}
+use Rattle.vupresal_c.specs.declared.fault.Fault.{Fault}
+use Rattle.vupresal_c.specs.declared.fault.Fault.TheVariants.{OutOfRange, Refused}
+use Rattle.vupresal_c.specs.declared.settings.Resource.{Resource}
+use Rattle.vupresal_c.specs.declared.settings.Settings.{Settings}
+
+-- a filter as it is given
+abbrev pub resource_given : Resource → FilterValue
+resource_given r = record { name = r.name.now; budget = r.budget }
+
+-- the filters as they are given, in order
+abbrev pub resources_given : List Resource → List FilterValue
+resources_given resources = map resource_given resources
+
+-- the configuration that the settings are, with these limits
+abbrev pub config_given : Settings → LimitsValue → ConfigValue
+config_given s limits = record {
+  node = s.node.now;
+  cluster = s.cluster.now;
+  filters = resources_given s.filters.now;
+  limits = limits;
+}
+
+-- the configuration of the settings
+abbrev pub IsConfig : Settings → ConfigValue → Type 0
+IsConfig s config = IsSomeAnd (limits_given s.bounds) (λ limits. config ≡ config_given s limits)
+
+-- the core of a new proxy with these settings, which has put out nothing
+abbrev pub IsNewCore : Settings → Core → Type 0
+IsNewCore s core = IsSomeAnd (limits_given s.bounds) (λ limits.
+    proxy_view core.proxy ≡ new_proxy (config_given s limits)) × (output_view core.output ≡ no_output)
+
+-- each name is UTF-8
+abbrev pub AreTexts : List Resource → Type 0
+AreTexts resources = AllByRecursion (λ r. IsUtf8 r.name.now) resources
+
+-- out of memory, or a text is none
+abbrev pub TextFails : Type 0 → Fault → Type 0
+TextFails IsText e = (e ≡ Refused Refusal.Memory) ⊎ ((e ≡ OutOfRange) × (IsText → ⊥))
+
+-- what is wrong with settings out of range
+pub data AreOutOfRange (s : Settings) : Type 0 where
+  bounds : limits_given s.bounds ≡ None → AreOutOfRange s
+  node : (IsUtf8 s.node.now → ⊥) → AreOutOfRange s
+  cluster : (IsUtf8 s.cluster.now → ⊥) → AreOutOfRange s
+  names : (AreTexts s.filters.now → ⊥) → AreOutOfRange s
+  config : (limits : LimitsValue) (e : ConfigFault) → limits_given s.bounds ≡ Some limits
+      → IsAtFault (config_given s limits) e → AreOutOfRange s
+
+-- the settings make no core: memory ran out, or they are out of range
+abbrev pub SettingsFail : Settings → Fault → Type 0
+SettingsFail s e = (e ≡ Refused Refusal.Memory) ⊎ ((e ≡ OutOfRange) × AreOutOfRange s)

@@ -1,0 +1,69 @@
+//! Decisions on a request by its parts.
+
+ghost use Rattle.std.specs.Prelude.{◌≡◌, ◌≢◌, IfOk, IfErr, IsSomeAnd};
+ghost use Rattle.c_inputs.specs.Facts.{facts_given};
+ghost use Rattle.vupresal_c.specs.Decisions.{AsksByParts, Fails, IsAnswer, IsDecision, PartsFailFor, parts_given, refused};
+ghost use Rattle.vupresal_c.specs.Handles.{filter_in};
+ghost use Rattle.vupresal_c.specs.Statuses.{done, status_of};
+ghost use Rattle.vupresal_c.specs.declared.fault.Fault.{Fault as FaultValue};
+
+use crate::decision::{Decision, answered};
+use crate::fault::Fault;
+use crate::filter::Filter;
+use crate::request::RequestInput;
+use c_inputs::{FactsInput, conn_of};
+use http_front::{HeadParts, request_of_parts};
+use rbac_policy::{Admitted, Verdict};
+use std::alloc::Global;
+
+/// Gives the filter's decision on a request by its parts, with the same statuses as for a head.
+#[unsafe(no_mangle)]
+pub extern "C" fn vupresal_filter_decide(
+    alloc: Global,
+    filter: &mut Filter,
+    request: &RequestInput<'_>,
+    facts: &FactsInput<'_>,
+    decision: &mut Decision,
+) -> i32
+    ensures found { result ≡ done → IsSomeAnd (filter_in filter.old)
+        (λ a. IsDecision (AsksByParts (parts_given request.now) (facts_given facts.now)) a decision.new) }
+    ensures fault { result ≢ done → (e : FaultValue)
+        × Fails (filter_in filter.old) (PartsFailFor (parts_given request.now) (facts_given facts.now)) e
+        × (result ≡ status_of e) }
+    ensures refused { result ≢ done → decision.new ≡ refused }
+    ensures kept { filter_in filter.new ≡ filter_in filter.old }
+{
+    match filter.take(alloc) {
+        Some(admitted) => {
+            let answer = decide_parts(alloc, &admitted, request, facts);
+            filter.put(admitted);
+            answered(answer, decision)
+        }
+        None => answered(Err(Fault::Empty), decision),
+    }
+}
+
+/// The verdict on a request by its parts.
+fn decide_parts(
+    alloc: Global,
+    admitted: &Admitted,
+    request: &RequestInput<'_>,
+    facts: &FactsInput<'_>,
+) -> Result<Verdict, Fault>
+    ensures found { IfOk result
+        (IsAnswer (AsksByParts (parts_given request.now) (facts_given facts.now)) admitted.now) }
+    ensures fault { IfErr result
+        (PartsFailFor (parts_given request.now) (facts_given facts.now) admitted.now) }
+{
+    let conn = conn_of(alloc, facts)?;
+    let parts = HeadParts {
+        method: request.method,
+        target: request.target,
+        is_http11: request.is_http11,
+        lines: request.lines,
+    };
+    match request_of_parts(alloc, admitted.limits(), conn, &parts)? {
+        Ok(request) => Ok(admitted.decide(&request)?),
+        Err(fault) => Err(Fault::Head(fault)),
+    }
+}

@@ -1,0 +1,3 @@
+module vupresal.example/vupresal
+
+go 1.19

@@ -1,0 +1,222 @@
+// Package vupresal decides on requests by Envoy's RBAC filters, with the library of include/vupresal.h.
+//
+// A Filter may be asked by any goroutine. Inside, each of its workers has a thread of its own, since the library's handles
+// belong to the thread that made them.
+package vupresal
+
+// #cgo pkg-config: vupresal
+// #include <stdlib.h>
+// #include <vupresal.h>
+import "C"
+
+import (
+	"errors"
+	"fmt"
+	"runtime"
+	"sync"
+	"unsafe"
+)
+
+// MostBudget is the greatest budget of a filter, in steps of its conditions.
+const MostBudget = C.VUPRESAL_MOST_BUDGET
+
+// ErrClosed is the error of a filter that was closed.
+var ErrClosed = errors.New("vupresal: the filter is closed")
+
+// A Status is why there is no filter or no decision.
+type Status int32
+
+// Statuses of requests. All others say why a filter is refused.
+const (
+	Memory         Status = C.VUPRESAL_MEMORY
+	OutOfRange     Status = C.VUPRESAL_OUT_OF_RANGE
+	BadRequest     Status = C.VUPRESAL_BAD_REQUEST
+	OutsideLimits  Status = C.VUPRESAL_OUTSIDE_LIMITS
+	TransferCoding Status = C.VUPRESAL_TRANSFER_CODING
+)
+
+// Error is the meaning of the status.
+func (s Status) Error() string {
+	return "vupresal: " + C.GoString(C.vupresal_status_text(C.int32_t(s)))
+}
+
+// A Refusal is why a filter's message is not admitted.
+type Refusal struct {
+	Status Status
+	// Place is the part of the message with the fault; it may be empty.
+	Place string
+}
+
+func (r *Refusal) Error() string {
+	if r.Place == "" {
+		return r.Status.Error()
+	}
+	return fmt.Sprintf("%v: %s", r.Status, r.Place)
+}
+
+// Unwrap is the status.
+func (r *Refusal) Unwrap() error { return r.Status }
+
+// A Decision is what a filter says of a request.
+type Decision struct {
+	Allowed bool
+	// Matched tells whether a policy matches, and Policy is the name of the first one in the order of names.
+	Matched bool
+	Policy  string
+}
+
+// Options of a filter. The zero value stands for the defaults.
+type Options struct {
+	// Budget is the most steps that the conditions may take for one request: 1,000,000 by default.
+	Budget uint64
+	// Workers is the number of threads that decide: as many as GOMAXPROCS by default.
+	Workers int
+}
+
+// A Version tells what library this is.
+type Version struct {
+	// Number has a million for each first number, and a thousand for each second one.
+	Number uint64
+	Proved bool
+}
+
+// LibraryVersion tells what library this program runs with.
+func LibraryVersion() Version {
+	var build C.vupresal_build
+	C.vupresal_version(&build)
+	return Version{Number: uint64(build.number), Proved: bool(build.is_proved)}
+}
+
+// A Filter is an admitted filter.
+type Filter struct {
+	jobs   chan job
+	closed chan struct{}
+	once   sync.Once
+	ended  sync.WaitGroup
+}
+
+type job struct {
+	request *Request
+	facts   *Facts
+	answer  chan<- answer
+}
+
+type answer struct {
+	decision Decision
+	err      error
+}
+
+// Admit admits the message of an HTTP RBAC filter. The error is a *Refusal if the message is at fault.
+func Admit(message []byte, options Options) (*Filter, error) {
+	if !bool(C.vupresal_is_expected()) {
+		return nil, errors.New("vupresal: the library has another version than its header")
+	}
+	if options.Budget == 0 {
+		options.Budget = 1_000_000
+	}
+	if options.Workers <= 0 {
+		options.Workers = runtime.GOMAXPROCS(0)
+	}
+	filter := &Filter{jobs: make(chan job), closed: make(chan struct{})}
+	ready := make(chan error, options.Workers)
+	filter.ended.Add(options.Workers)
+	for i := 0; i < options.Workers; i++ {
+		go filter.work(message, options.Budget, ready)
+	}
+	var err error
+	for i := 0; i < options.Workers; i++ {
+		if failed := <-ready; failed != nil {
+			err = failed
+		}
+	}
+	if err != nil {
+		filter.Close()
+		return nil, err
+	}
+	return filter, nil
+}
+
+// Close frees the filter. Decisions after it have the error ErrClosed.
+func (f *Filter) Close() {
+	f.once.Do(func() { close(f.closed) })
+	f.ended.Wait()
+}
+
+// Decide gives the decision on a request. Without an error the decision counts; with one it refuses.
+func (f *Filter) Decide(request *Request, facts *Facts) (Decision, error) {
+	result := make(chan answer, 1)
+	select {
+	case f.jobs <- job{request, facts, result}:
+		found := <-result
+		return found.decision, found.err
+	case <-f.closed:
+		return Decision{}, ErrClosed
+	}
+}
+
+// work owns a handle, on a thread of its own.
+func (f *Filter) work(message []byte, budget uint64, ready chan<- error) {
+	defer f.ended.Done()
+	runtime.LockOSThread()
+	defer runtime.UnlockOSThread()
+	var handle C.vupresal_filter
+	defer C.vupresal_filter_free(&handle)
+	err := admit(&handle, message, budget)
+	ready <- err
+	if err != nil {
+		return
+	}
+	for {
+		select {
+		case next := <-f.jobs:
+			decision, err := decide(&handle, next.request, next.facts)
+			next.answer <- answer{decision, err}
+		case <-f.closed:
+			return
+		}
+	}
+}
+
+func admit(handle *C.vupresal_filter, message []byte, budget uint64) error {
+	var bounds C.vupresal_bounds
+	place := make([]byte, 512)
+	status := C.vupresal_filter_admit(handle, first(message), C.size_t(len(message)), &bounds, C.uint64_t(budget), first(place), C.size_t(len(place)))
+	if status == C.VUPRESAL_OK {
+		return nil
+	}
+	return &Refusal{Status(status), C.GoString((*C.char)(unsafe.Pointer(&place[0])))}
+}
+
+func decide(handle *C.vupresal_filter, request *Request, facts *Facts) (Decision, error) {
+	packed := pack(request, facts)
+	defer packed.free()
+	var decision C.vupresal_decision
+	status := C.vupresal_filter_decide(handle, &packed.request, &packed.facts, &decision)
+	if status != C.VUPRESAL_OK {
+		return Decision{}, Status(status)
+	}
+	found := Decision{Allowed: bool(decision.is_allowed), Matched: bool(decision.is_matched)}
+	if found.Matched {
+		found.Policy = policyName(handle, decision.matched)
+	}
+	return found, nil
+}
+
+func policyName(handle *C.vupresal_filter, number C.uint64_t) string {
+	room := make([]byte, 128)
+	for {
+		length := int(C.vupresal_filter_policy_name(handle, number, first(room), C.size_t(len(room))))
+		if length <= len(room) {
+			return string(room[:length])
+		}
+		room = make([]byte, length)
+	}
+}
+
+// first points to the first of the bytes; nil if there are none.
+func first(bytes []byte) *C.uint8_t {
+	if len(bytes) == 0 {
+		return nil
+	}
+	return (*C.uint8_t)(unsafe.Pointer(&bytes[0]))
+}

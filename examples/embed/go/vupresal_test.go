@@ -1,0 +1,167 @@
+package vupresal
+
+import (
+	"errors"
+	"net/http"
+	"net/http/httptest"
+	"net/netip"
+	"os"
+	"path/filepath"
+	"strings"
+	"sync"
+	"testing"
+)
+
+// filterOf admits a filter of the folder examples.
+func filterOf(t testing.TB, name string, options Options) *Filter {
+	t.Helper()
+	filter, err := Admit(example(t, name), options)
+	if err != nil {
+		t.Fatal(err)
+	}
+	t.Cleanup(filter.Close)
+	return filter
+}
+
+func example(t testing.TB, name string) []byte {
+	t.Helper()
+	folder := os.Getenv("VUPRESAL_EXAMPLES")
+	if folder == "" {
+		folder = filepath.Join("..", "..")
+	}
+	message, err := os.ReadFile(filepath.Join(folder, name))
+	if err != nil {
+		t.Fatal(err)
+	}
+	return message
+}
+
+func get(target string, lines ...Line) *Request {
+	return &Request{Method: "GET", Target: target, Lines: append([]Line{{"Host", "h"}}, lines...)}
+}
+
+func TestDecisions(t *testing.T) {
+	for _, row := range []struct {
+		filter, target string
+		want           Decision
+	}{
+		{"condition.bin", "/", Decision{true, true, "readers"}},
+		{"condition.bin", "/about", Decision{true, true, "readers"}},
+		{"condition.bin", "/admin", Decision{}},
+		{"any_any.bin", "/admin", Decision{true, true, "p"}},
+		{"deny_any.bin", "/", Decision{false, true, "p"}},
+	} {
+		got, err := filterOf(t, row.filter, Options{Workers: 1}).Decide(get(row.target), &Facts{Scheme: "http"})
+		if err != nil || got != row.want {
+			t.Errorf("%s of %s: %v, %v; want %v", row.target, row.filter, got, err, row.want)
+		}
+	}
+}
+
+func TestRequestsWithoutDecision(t *testing.T) {
+	filter := filterOf(t, "any_any.bin", Options{Workers: 1})
+	many := make([]Line, 70)
+	for i := range many {
+		many[i] = Line{"x", "v"}
+	}
+	for _, row := range []struct {
+		name    string
+		request *Request
+		want    Status
+	}{
+		{"no request", &Request{}, BadRequest},
+		{"no host", &Request{Method: "GET", Target: "/"}, BadRequest},
+		{"two hosts", get("/", Line{"host", "other"}), BadRequest},
+		{"no name", get("/", Line{"", "v"}), BadRequest},
+		{"a line end", get("/", Line{"x", "a\nb"}), BadRequest},
+		{"no UTF-8", get("/", Line{"x", "\xff"}), BadRequest},
+		{"no slash", get("x"), BadRequest},
+		{"a long target", get("/" + strings.Repeat("a", 4096)), OutsideLimits},
+		{"many lines", get("/", many...), OutsideLimits},
+		{"a transfer coding", get("/", Line{"Transfer-Encoding", "chunked"}), TransferCoding},
+	} {
+		got, err := filter.Decide(row.request, &Facts{})
+		if got.Allowed || !errors.Is(err, row.want) {
+			t.Errorf("%s: %v, %v; want %v", row.name, got, err, row.want)
+		}
+	}
+	mutual, id := true, uint64(7)
+	facts := &Facts{Scheme: "https", Source: netip.MustParseAddrPort("[::ffff:127.0.0.1]:1"), RemoteIP: netip.MustParseAddr("::1"), MutualTLS: &mutual,
+		ConnectionID: &id, TLSVersion: "TLSv1.3"}
+	if got, err := filter.Decide(get("/"), facts); err != nil || !got.Allowed {
+		t.Errorf("facts: %v, %v", got, err)
+	}
+	if _, err := filter.Decide(get("/"), &Facts{TLSVersion: "\xff"}); !errors.Is(err, BadRequest) {
+		t.Errorf("a fact that is no UTF-8: %v", err)
+	}
+}
+
+func TestRefusals(t *testing.T) {
+	var refusal *Refusal
+	if _, err := Admit(example(t, "condition.bin"), Options{Budget: 1}); !errors.As(err, &refusal) || refusal.Place != `policy "readers": checked_condition` {
+		t.Errorf("a small budget: %v", err)
+	}
+	for _, message := range [][]byte{nil, {0xff}} {
+		if _, err := Admit(message, Options{}); !errors.As(err, &refusal) {
+			t.Errorf("%x: %v", message, err)
+		}
+	}
+	if _, err := Admit(example(t, "any_any.bin"), Options{Budget: MostBudget + 1}); !errors.Is(err, OutOfRange) {
+		t.Errorf("a large budget: %v", err)
+	}
+}
+
+func TestClosed(t *testing.T) {
+	filter := filterOf(t, "any_any.bin", Options{})
+	filter.Close()
+	filter.Close()
+	if got, err := filter.Decide(get("/"), &Facts{}); got.Allowed || err != ErrClosed {
+		t.Errorf("%v, %v", got, err)
+	}
+}
+
+func TestManyGoroutines(t *testing.T) {
+	filter := filterOf(t, "condition.bin", Options{Workers: 4})
+	var all sync.WaitGroup
+	for i := 0; i < 16; i++ {
+		all.Add(1)
+		go func() {
+			defer all.Done()
+			for n := 0; n < 200; n++ {
+				yes, err := filter.Decide(get("/"), &Facts{})
+				no, other := filter.Decide(get("/admin"), &Facts{})
+				if err != nil || other != nil || !yes.Allowed || no.Allowed {
+					t.Errorf("%v, %v, %v, %v", yes, err, no, other)
+					return
+				}
+			}
+		}()
+	}
+	all.Wait()
+}
+
+func TestHandler(t *testing.T) {
+	next := http.HandlerFunc(func(w http.ResponseWriter, _ *http.Request) { w.WriteHeader(http.StatusNoContent) })
+	server := httptest.NewServer(filterOf(t, "condition.bin", Options{}).Handler(next))
+	defer server.Close()
+	for target, want := range map[string]int{"/": 204, "/about": 204, "/admin": 403, "/%61bout": 403, "/" + strings.Repeat("a", 4096): 431} {
+		answer, err := http.Get(server.URL + target)
+		if err != nil {
+			t.Fatal(err)
+		}
+		answer.Body.Close()
+		if answer.StatusCode != want {
+			t.Errorf("%.20s: %d; want %d", target, answer.StatusCode, want)
+		}
+	}
+}
+
+func BenchmarkDecide(b *testing.B) {
+	filter := filterOf(b, "condition.bin", Options{Workers: 1})
+	request, facts := get("/"), &Facts{Scheme: "http"}
+	for i := 0; i < b.N; i++ {
+		if _, err := filter.Decide(request, facts); err != nil {
+			b.Fatal(err)
+		}
+	}
+}

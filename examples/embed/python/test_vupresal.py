@@ -1,0 +1,85 @@
+"""Tests of the package, with the filters of the folder examples."""
+
+import concurrent.futures
+import pathlib
+import threading
+import unittest
+
+from vupresal import Decision, EachThread, Error, Facts, Filter, Refused, is_proved
+
+EXAMPLES = pathlib.Path(__file__).resolve().parent.parent.parent
+HOST = [("Host", "h")]
+
+
+def example(name: str) -> bytes:
+    return (EXAMPLES / name).read_bytes()
+
+
+class Filters(unittest.TestCase):
+    def test_decisions(self) -> None:
+        rows = [("condition.bin", "/", Decision(True, "readers")), ("condition.bin", "/about", Decision(True, "readers")),
+                ("condition.bin", "/admin", Decision(False, None)), ("any_any.bin", "/admin", Decision(True, "p")),
+                ("deny_any.bin", "/", Decision(False, "p"))]
+        for name, target, wanted in rows:
+            with self.subTest(name=name, target=target), Filter(example(name)) as one:
+                self.assertEqual(one.decide("GET", target, HOST), wanted)
+                self.assertEqual(one.decide_head(f"GET {target} HTTP/1.1\r\nHost: h\r\n\r\n".encode()), wanted)
+
+    def test_requests_without_decision(self) -> None:
+        rows = [("", "/", HOST, 400), ("GET", "x", HOST, 400), ("GET", "/", [], 400), ("GET", "/", HOST + [("host", "i")], 400),
+                ("GET", "/", HOST + [("", "v")], 400), ("GET", "/", HOST + [("x", "a\nb")], 400), ("GET", "/", HOST + [("x", b"\xff")], 400),
+                ("GET", "/" + "a" * 4096, HOST, 431), ("GET", "/", HOST + [("x", "v")] * 70, 431), ("GET", "/", HOST + [("Transfer-Encoding", "chunked")], 501)]
+        with Filter(example("any_any.bin")) as one:
+            for method, target, lines, status in rows:
+                with self.subTest(status=status, method=method), self.assertRaises(Error) as raised:
+                    one.decide(method, target, lines)
+                self.assertEqual(raised.exception.status, status)
+            with self.assertRaises(Error):
+                one.decide_head(b"GET / HTTP/1.1\r\n")
+            self.assertTrue(one.decide("GET", "/", [], is_http11=False).allowed)
+
+    def test_facts(self) -> None:
+        facts = Facts("https", "127.0.0.1:1", "[::1]:2", "h", "TLSv1.3", "CN=a", "a", "spiffe://a", "127.0.0.1", "10.0.0.1", "::1", 1, 2, True, 2**64 - 1)
+        with Filter(example("any_any.bin")) as one:
+            self.assertTrue(one.decide("GET", "/", HOST, facts).allowed)
+            with self.assertRaises(Error) as raised:
+                one.decide("GET", "/", HOST, Facts(tls_version="\udcff"))
+            self.assertEqual(raised.exception.status, 400)
+
+    def test_refusals(self) -> None:
+        with self.assertRaises(Refused) as raised:
+            Filter(example("condition.bin"), budget=1)
+        self.assertEqual((raised.exception.status, raised.exception.place), (15, 'policy "readers": checked_condition'))
+        for message, status in ((b"", 4), (b"\x0a\xff", 1), (b"\xff", 1)):
+            with self.assertRaises(Refused) as raised:
+                Filter(message)
+            self.assertEqual(raised.exception.status, status)
+        with self.assertRaises(Refused):
+            Filter(example("any_any.bin"), budget=0)
+
+    def test_what_it_says_of_itself(self) -> None:
+        with Filter(example("condition.bin")) as one:
+            self.assertEqual((one.policies, one.bound), (1, 8258))
+        self.assertEqual((one.policies, one.bound), (0, 0))
+        with self.assertRaises(Error):
+            one.decide("GET", "/", HOST)
+        one.close()
+        self.assertIsInstance(is_proved(), bool)
+
+    def test_threads(self) -> None:
+        one = Filter(example("condition.bin"))
+        with concurrent.futures.ThreadPoolExecutor(1) as other, self.assertRaises(RuntimeError):
+            other.submit(one.decide, "GET", "/", HOST).result()
+        each = EachThread(example("condition.bin"))
+        begun = threading.Barrier(4)
+
+        def ask(_: int) -> bool:
+            begun.wait(10)
+            return all(each.filter.decide("GET", "/", HOST).allowed and not each.filter.decide("GET", "/admin", HOST).allowed for _ in range(100))
+
+        with concurrent.futures.ThreadPoolExecutor(4) as pool:
+            self.assertEqual(list(pool.map(ask, range(4))), [True] * 4)
+
+
+if __name__ == "__main__":
+    unittest.main()

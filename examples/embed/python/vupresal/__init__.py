@@ -1,0 +1,187 @@
+"""Decides on requests by Envoy's RBAC filters, with the library of include/vupresal.h.
+
+    from vupresal import Facts, Filter
+
+    with Filter(open("filter.bin", "rb").read()) as filter:
+        decision = filter.decide("GET", "/about", [("host", "shop.example")], Facts(remote_ip="10.0.0.1"))
+        if decision.allowed: ...
+
+A Filter belongs to the thread that made it. `EachThread` makes one for each thread.
+"""
+
+from __future__ import annotations
+
+import ctypes
+import ipaddress
+import threading
+from dataclasses import dataclass
+from typing import Iterable, NamedTuple, Optional, Tuple, Union
+
+from . import _library
+
+__all__ = ["Decision", "EachThread", "Error", "Facts", "Filter", "Refused", "is_proved"]
+
+Address = Union[str, ipaddress.IPv4Address, ipaddress.IPv6Address]
+Lines = Iterable[Tuple[Union[str, bytes], Union[str, bytes]]]
+
+_LIBRARY = _library.load()
+_MEANINGS = {
+    1: "the bytes are not whole fields of Protocol Buffers", 2: "a text is not UTF-8", 3: "a field is unknown, or has the wrong wire type",
+    4: "a required part is missing", 5: "a value is outside its range", 6: "a part is known but not supported",
+    7: "a policy has a checked and an unchecked condition", 8: "a limit of size, number or depth is exceeded",
+    9: "a condition has a name that is not known", 10: "a condition's function does not take these operands",
+    11: "a condition's type map names another type than the one found", 12: "a condition's reference map names something else",
+    13: "the type of a condition is not bool", 14: "an empty list or map in a condition has no type",
+    15: "the conditions may take more steps than the budget has", 19: "memory ran out", 20: "a condition took more steps than its bound",
+    -1: "the filter is closed", -2: "limits or a budget are out of their ranges", 400: "the request or a text of its facts is malformed",
+    431: "the request is outside the limits", 501: "the request has a Transfer-Encoding field",
+}
+
+
+def is_proved() -> bool:
+    """Whether each function of the library is proved to meet its contract."""
+    return bool(_library.version(_LIBRARY).is_proved)
+
+
+class Error(Exception):
+    """There is no decision. The request is to be refused; from 400 on, the status is one of HTTP."""
+
+    def __init__(self, status: int) -> None:
+        super().__init__(_MEANINGS.get(status, f"status {status}"))
+        self.status = status
+
+
+class Refused(Error):
+    """A filter's message is refused, at this place."""
+
+    def __init__(self, status: int, place: str) -> None:
+        super().__init__(status)
+        self.place = place
+
+    def __str__(self) -> str:
+        return f"{super().__str__()}: {self.place}" if self.place else super().__str__()
+
+
+class Decision(NamedTuple):
+    """What a filter says of a request, and the name of the first policy that matches, if one does."""
+
+    allowed: bool
+    policy: Optional[str]
+
+
+@dataclass(frozen=True)
+class Facts:
+    """What is known of a connection; None stands for an absent fact."""
+
+    scheme: str = "http"
+    source_address: Optional[str] = None
+    destination_address: Optional[str] = None
+    requested_server_name: Optional[str] = None
+    tls_version: Optional[str] = None
+    subject_peer_certificate: Optional[str] = None
+    dns_san_peer_certificate: Optional[str] = None
+    uri_san_peer_certificate: Optional[str] = None
+    direct_remote_ip: Optional[Address] = None
+    remote_ip: Optional[Address] = None
+    destination_ip: Optional[Address] = None
+    source_port: Optional[int] = None
+    destination_port: Optional[int] = None
+    mtls: Optional[bool] = None
+    connection_id: Optional[int] = None
+
+    def _input(self) -> _library.FactsInput:
+        facts = _library.FactsInput()
+        facts.scheme = _bytes_of(self.scheme)
+        for name in ("source_address", "destination_address", "requested_server_name", "tls_version", "subject_peer_certificate",
+                     "dns_san_peer_certificate", "uri_san_peer_certificate"):
+            text = getattr(self, name)
+            setattr(facts, name, _library.Text(_bytes_of(text or ""), text is not None))
+        for name in ("direct_remote_ip", "remote_ip", "destination_ip"):
+            address = getattr(self, name)
+            setattr(facts, name, _bytes_of(b"" if address is None else ipaddress.ip_address(address).packed))
+        facts.source_port = -1 if self.source_port is None else self.source_port
+        facts.destination_port = -1 if self.destination_port is None else self.destination_port
+        facts.mtls = -1 if self.mtls is None else int(self.mtls)
+        facts.connection_id, facts.has_connection_id = self.connection_id or 0, self.connection_id is not None
+        return facts
+
+
+def _bytes_of(text: Union[str, bytes]) -> _library.Bytes:
+    """These bytes, which the struct keeps alive; ctypes keeps what a field of type c_char_p was given."""
+    raw = text.encode("utf-8", "surrogateescape") if isinstance(text, str) else text
+    return _library.Bytes(raw, len(raw))
+
+
+class Filter:
+    """An admitted filter, on the thread that made it."""
+
+    def __init__(self, message: bytes, budget: int = 1_000_000) -> None:
+        """Admits the message of an HTTP RBAC filter; raises Refused if it is at fault. The budget is the most steps that its
+        conditions may take for one request, 1 to 100,000,000."""
+        self._thread = threading.get_ident()
+        self._handle = _library.Handle()
+        place = ctypes.create_string_buffer(512)
+        status = _LIBRARY.vupresal_filter_admit(ctypes.byref(self._handle), message, len(message), ctypes.byref(_library.Bounds()), budget, place,
+                                                len(place))
+        if status:
+            raise Refused(status, place.value.decode())
+
+    def decide(self, method: str, target: str, lines: Lines, facts: Facts = Facts(), is_http11: bool = True) -> Decision:
+        """The decision on a request by its parts. The host is a line `host` or `:authority`. Raises Error without a decision."""
+        pairs = [_library.Line(_bytes_of(name), _bytes_of(value)) for name, value in lines]
+        request = _library.RequestInput(_bytes_of(method), _bytes_of(target), (_library.Line * len(pairs))(*pairs), len(pairs), is_http11)
+        return self._decision(_LIBRARY.vupresal_filter_decide, ctypes.byref(request), facts=facts)
+
+    def decide_head(self, head: bytes, facts: Facts = Facts()) -> Decision:
+        """The decision on a request by its whole head of HTTP/1. Raises Error without a decision."""
+        return self._decision(_LIBRARY.vupresal_filter_decide_head, head, len(head), facts=facts)
+
+    def _decision(self, function, *request, facts: Facts) -> Decision:
+        handle, decision = self._mine(), _library.DecisionOutput()
+        status = function(handle, *request, ctypes.byref(facts._input()), ctypes.byref(decision))
+        if status:
+            raise Error(status)
+        return Decision(decision.is_allowed, self._name(decision.matched) if decision.is_matched else None)
+
+    def _name(self, number: int) -> str:
+        size = _LIBRARY.vupresal_filter_policy_name(self._mine(), number, None, 0)
+        room = ctypes.create_string_buffer(size + 1)
+        _LIBRARY.vupresal_filter_policy_name(self._mine(), number, room, size)
+        return room.raw[:size].decode()
+
+    @property
+    def policies(self) -> int:
+        """The number of policies."""
+        return _LIBRARY.vupresal_filter_policies(self._mine())
+
+    @property
+    def bound(self) -> int:
+        """The most steps that the conditions together take for one request."""
+        return _LIBRARY.vupresal_filter_bound(self._mine())
+
+    def close(self) -> None:
+        """Frees the filter. It may be closed again."""
+        _LIBRARY.vupresal_filter_free(self._mine())
+
+    def _mine(self):
+        if threading.get_ident() != self._thread:
+            raise RuntimeError("a Filter belongs to the thread that made it; EachThread makes one for each")
+        return ctypes.byref(self._handle)
+
+    def __enter__(self) -> Filter:
+        return self
+
+    def __exit__(self, *_: object) -> None:
+        self.close()
+
+    def __del__(self) -> None:
+        # what another thread drops is not freed: it belongs to a thread that may be using it
+        if getattr(self, "_thread", None) == threading.get_ident():
+            self.close()
+
+
+class EachThread(threading.local):
+    """A filter for each thread that asks, admitted by that thread when it first does."""
+
+    def __init__(self, message: bytes, budget: int = 1_000_000) -> None:
+        self.filter = Filter(message, budget)

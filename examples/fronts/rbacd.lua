@@ -1,0 +1,32 @@
+-- Asks rbacd about a request, with its method, target and fields. txn.rbacd becomes the status of the answer, or 0 if there is none.
+local ADDRESS = "unix@/run/rbacd/rbacd.sock"
+local SECONDS = 1
+-- fields about the connection or the body, which rbacd does not get
+local LEFT_OUT = {}
+for name in ("connection content-length expect keep-alive proxy-connection te trailer transfer-encoding upgrade"):gmatch("%S+") do
+  LEFT_OUT[name] = true
+end
+
+local function head(txn)
+  local lines = {txn.sf:method() .. " " .. txn.sf:pathq() .. " HTTP/1.1", "connection: close"}
+  for name, values in pairs(txn.http:req_get_headers()) do
+    if not LEFT_OUT[name] then
+      for at = 0, #values do
+        lines[#lines + 1] = name .. ": " .. values[at]
+      end
+    end
+  end
+  return table.concat(lines, "\r\n") .. "\r\n\r\n"
+end
+
+local function status(text)
+  local socket = core.tcp()
+  socket:settimeout(SECONDS)
+  local line = socket:connect(ADDRESS) and socket:send(text) and socket:receive("*l")
+  socket:close()
+  return tonumber((line or ""):match("^HTTP/1%.1 (%d%d%d) ") or 0)
+end
+
+core.register_action("rbacd", {"http-req"}, function(txn)
+  txn:set_var("txn.rbacd", status(head(txn)))
+end, 0)
