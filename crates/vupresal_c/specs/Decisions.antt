@@ -31,11 +31,12 @@ matched_in d = if d.is_matched then Some d.matched else None
 abbrev pub refused : Decision
 refused = record { matched = 0; is_matched = false; is_allowed = false }
 
--- the decision of a verdict
+-- the decision of a verdict with these parts: whether it allows, and the policy that matched, if one did
 abbrev pub decision_with : Bool → Option ℕ → Decision
 decision_with allowed (Some k) = record { matched = k; is_matched = true; is_allowed = allowed }
 decision_with allowed None = record { matched = 0; is_matched = false; is_allowed = allowed }
 
+-- the decision that says a verdict: whether the request is allowed, and which policy matched
 abbrev pub decision_of : Verdict → Decision
 decision_of v = decision_with v.allowed v.matched
 
