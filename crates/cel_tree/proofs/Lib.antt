@@ -1,24 +1,4 @@
-pub mod Basics
 pub mod Readers
 pub mod PairFacts
-pub mod Texts
-pub mod Entries
-pub mod Standing
-pub mod ChildLaws
-pub mod InnerLaws
-pub mod Counting
-pub mod Insides
-pub mod TypeLevels
 pub mod IdPlaces
 pub mod IdMaps
-pub mod ReadingLaws
-pub mod ConstantLaws
-pub mod ReferenceLaws
-pub mod TypeLaws
-pub mod NodeLaws
-pub mod TreeLaws
-pub mod CheckedLaws
-pub mod Bounds
-pub mod GoodConstantLaws
-pub mod IdLaws
-mod StandardFacts

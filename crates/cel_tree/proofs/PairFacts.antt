@@ -1,4 +1,4 @@
--- What holds of a pair whose second value may have been refused.
+-- What holds of a value beside a result that may be a refusal.
 use Rattle.std.proofs.Common.{◌≡◌, subst, sym}
 use Rattle.std.specs.Prelude.{Result, Ok, Err, IfOk, IfErr}
 
@@ -15,3 +15,19 @@ module _ {T U E : Type 0} (first : T) (second : Result U E) where
   pub both_fault : (r : Result (T × U) E) (F : E → Type 0) → IfErr r (λ e. second ≡ Err e) → IfErr second F → IfErr r F
   both_fault (Ok pair) F fault bad = tt
   both_fault (Err e) F fault bad = rw fault at bad
+
+module _ {T U E : Type 0} (value : T) (tested : Result U E) where
+  -- where the value is kept
+  pub kept_found : (r : Result T E) (P : T → Type 0) → IfOk r (λ it. it ≡ value) → IfErr tested (λ e. r ≡ Err e)
+      → IfOk tested (λ u. P value) → IfOk r P
+  kept_found (Err e) P found refused holds = tt
+  kept_found (Ok it) P found refused holds = subst P (sym found) (held tested refused holds)
+    where
+      held : (t : Result U E) → IfErr t (λ e. Ok it ≡ Err e) → IfOk t (λ u. P value) → P value
+      held (Ok u) refused holds = holds
+      held (Err e) refused holds = absurd (let clash : Ok it ≡ Err e = refused in cc)
+
+  -- where it is refused
+  pub kept_fault : (r : Result T E) (F : E → Type 0) → IfErr r (λ e. tested ≡ Err e) → IfErr tested F → IfErr r F
+  kept_fault (Ok it) F fault bad = tt
+  kept_fault (Err e) F fault bad = rw fault at bad

@@ -11,8 +11,8 @@ use Rattle.proto_wire.specs.declared.refusal.Refusal.{Refusal}
 use Rattle.cel_value.specs.Texts.{points_of}
 use Rattle.cel_value.specs.Values.{CelValue, bool, int, uint, text, bytes}
 use Rattle.cel_tree.specs.Reading.{Reads, ReadFault, OneofSays, Never, LacksMember, IsUnsupported, OneofFault}
-use Rattle.cel_tree.specs.declared.constant.ConstantKind.{ConstantKind}
-use Rattle.cel_tree.specs.declared.constant.ConstantKind.TheVariants as kinds
+use Rattle.cel_tree.specs.declared.kinds.ConstantKind.{ConstantKind}
+use Rattle.cel_tree.specs.declared.kinds.ConstantKind.TheVariants as kinds
 
 -- an I64 field of this number
 abbrev pub i64_key : ℕ → Key

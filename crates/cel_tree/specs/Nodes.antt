@@ -15,8 +15,8 @@ use Rattle.cel_value.specs.Texts.{points_of}
 use Rattle.cel_value.specs.Values.{CelValue}
 use Rattle.cel_tree.specs.Constants.{IsConstant, ConstantFault}
 use Rattle.cel_tree.specs.Reading.{Reads, ReadFault, LacksNothing, OneofSays, Never, LacksMember, IsUnsupported, OneofFault, IsPart, IsElement, StandsIn}
-use Rattle.cel_tree.specs.declared.node.NodeKind.{NodeKind}
-use Rattle.cel_tree.specs.declared.node.NodeKind.TheVariants as kinds
+use Rattle.cel_tree.specs.declared.kinds.NodeKind.{NodeKind}
+use Rattle.cel_tree.specs.declared.kinds.NodeKind.TheVariants as kinds
 
 -- the payloads of a message, which may have several
 abbrev pub Parts : Type 0

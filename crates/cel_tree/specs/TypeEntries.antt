@@ -11,8 +11,8 @@ use Rattle.cel_value.specs.Types.{ValueType, bool_type, int_type, uint_type, tex
 use Rattle.cel_value.specs.declared.cel_type.KeyType.{KeyType}
 use Rattle.cel_tree.specs.Checked.{CelTypeEntry, of_type, dyn_type, unsupported_type}
 use Rattle.cel_tree.specs.Reading.{Reads, ReadFault, LacksNothing, OneofSays, Never, OneofFault, IsPart, StandsIn}
-use Rattle.cel_tree.specs.declared.type_node.TypeKind.{TypeKind}
-use Rattle.cel_tree.specs.declared.type_node.TypeKind.TheVariants as kinds
+use Rattle.cel_tree.specs.declared.kinds.TypeKind.{TypeKind}
+use Rattle.cel_tree.specs.declared.kinds.TypeKind.TheVariants as kinds
 
 -- ---- list and map types
 

@@ -1,7 +1,8 @@
 -- Names of the code are bytes, those of the definitions code points; names of attributes and of roots
 -- are ASCII.
-use Rattle.std.proofs.Common.{arith, ◌≡◌, ◌≢◌, ◌↔◌, ℕ, Bool, true, false, List, [], ◌∷◌, ◌++◌, Option, Some, None, refl, sym, ap, ◌∙◌, append_assoc}
-use Rattle.std.specs.Prelude.{IsUtf8, codes}
+use Rattle.std.proofs.Common.{arith, ◌≡◌, ◌≢◌, ◌↔◌, ℕ, Bool, true, false, List, [], ◌∷◌, ◌++◌, length, Option, Some, None, refl, sym, ap, ◌∙◌, append_assoc}
+use Rattle.std.specs.Prelude.{IsTrue, IsUtf8, codes, ◌==◌}
+use Rattle.std.proofs.lemmas.Bool.Decides.{nat_tests}
 use Rattle.std.specs.Str.{bytes_eq}
 use Rattle.std.specs.Cmp.Lexicographic.{bytes_decides}
 use Rattle.std.proofs.lemmas.Str.{chars-append, chars-IsAscii, chars_from_encodes, chars-nil, encodes-chars, IsUtf8-append, IsUtf8-from_ascii}
@@ -123,3 +124,12 @@ joined_points root field u =
     ∙ ap (λ l. l ++ points_of field)
     (chars-append root (46 ∷ []) u ∙ ap (λ l. points_of root ++ l) (chars-IsAscii (46 ∷ []) dot))
     ∙ append_assoc (points_of root) (46 ∷ []) (points_of field)
+
+-- a name is empty where it has no bytes
+pub empty_name : (bs : List ℕ) → IsUtf8 bs → (b : Bool) → b ≡ (length bs == 0)
+    → (IsTrue b → points_of bs ≡ []) × (points_of bs ≡ [] → IsTrue b)
+empty_name [] u b e = rw e (λ t. (nameless [] u).0 refl, λ k. refl)
+empty_name (x ∷ bs) u b e = rw e (λ t. absurd (let none : length (x ∷ bs) ≡ 0 = grind (arith, nat_tests) in omega (arith, none)), λ k. absurd (other ((nameless (x ∷ bs) u).1 k)))
+  where
+    other : x ∷ bs ≡ [] → ⊥
+    other k = cc

@@ -14,6 +14,5 @@ pub mod WellTypedElaborations
 pub mod MeansCalls
 pub mod MeansTheSame
 pub mod OneVariable
-pub mod Checking
 pub mod CheckNames
-pub mod CheckSteps
+pub mod TreeViews

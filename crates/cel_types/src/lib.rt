@@ -1,10 +1,9 @@
 //! The meaning and the types of CEL expressions.
 #![tactic(auto)]
 
-mod checker;
 pub mod laws;
+mod names;
 mod typed;
 
-pub use checker::names::{attribute_named, is_root, joined_name};
-pub use checker::{check, faulty_node};
+pub use names::{attribute_named, is_root, joined_name};
 pub use typed::{Typed, TypedExpr, TypedLoop, Variables};

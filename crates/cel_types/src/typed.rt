@@ -1,5 +1,10 @@
 //! Expressions with the results of checking.
 
+ghost use Rattle.std.specs.Prelude.{◌≡◌};
+ghost use Rattle.cel_value.specs.Types.{type_view};
+ghost use Rattle.cel_types.specs.Elaborated.{kind};
+ghost use Rattle.cel_types.specs.View.{expr_view};
+
 use attributes::AttrId;
 use cel_overload::Overload;
 use cel_tree::Constant;
@@ -55,6 +60,25 @@ pub enum TypedExpr<'a> {
         cel_type: CelType,
         parts: Box<TypedLoop<'a>>,
     },
+}
+
+impl<'a> TypedExpr<'a> {
+    /// The type of the expression.
+    pub fn cel_type(&self) -> &CelType
+        ensures { type_view result.now ≡ kind (expr_view self.now) }
+    {
+        match self {
+            TypedExpr::Constant { cel_type, .. } => cel_type,
+            TypedExpr::Local { cel_type, .. } => cel_type,
+            TypedExpr::Attribute { cel_type, .. } => cel_type,
+            TypedExpr::Field { cel_type, .. } => cel_type,
+            TypedExpr::HasField { cel_type, .. } => cel_type,
+            TypedExpr::Call { cel_type, .. } => cel_type,
+            TypedExpr::List { cel_type, .. } => cel_type,
+            TypedExpr::Map { cel_type, .. } => cel_type,
+            TypedExpr::Loop { cel_type, .. } => cel_type,
+        }
+    }
 }
 
 /// How many variables a comprehension has beside its accumulator.

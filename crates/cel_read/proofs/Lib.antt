@@ -1,0 +1,21 @@
+pub mod Basics
+pub mod Texts
+pub mod Entries
+pub mod Standing
+pub mod ChildLaws
+pub mod InnerLaws
+pub mod Counting
+pub mod Insides
+pub mod TypeLevels
+pub mod NamedMaps
+pub mod ReadingLaws
+pub mod ConstantLaws
+pub mod ReferenceLaws
+pub mod TypeLaws
+pub mod NodeLaws
+pub mod TreeLaws
+pub mod CheckedLaws
+pub mod Bounds
+pub mod GoodConstantLaws
+pub mod IdLaws
+mod StandardFacts

@@ -1,0 +1,20 @@
+//! Reads the messages of checked expressions.
+#![tactic(auto)]
+
+mod constant;
+mod faulty;
+mod fields;
+pub mod laws;
+mod literals;
+mod loops;
+mod maps;
+mod message;
+mod node;
+mod operands;
+mod read;
+mod reference;
+mod type_entry;
+mod type_node;
+
+pub use faulty::{FaultyPart, faulty_expr, faulty_part};
+pub use message::{read_checked, read_checked_parts, read_unchecked_parts};

@@ -1,5 +1,0 @@
-use Rattle.cel_tree.proofs.CheckedLaws.{checked_total}
-use Rattle.cel_tree.proofs.laws.checked_total.Goals as goal
-
-pub returns : goal.returns
-returns c = checked_total

@@ -1,5 +1,0 @@
-use Rattle.cel_tree.proofs.CheckedLaws.{checked_unique}
-use Rattle.cel_tree.proofs.laws.checked_unique.Goals as goal
-
-pub returns : goal.returns
-returns c = checked_unique

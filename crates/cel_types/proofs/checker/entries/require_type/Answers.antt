@@ -1,4 +1,0 @@
-use Rattle.cel_types.proofs.checker.entries.require_type.Goals as goal
-
-pub returns-in-Some-clause-fault : goal.returns-in-Some-clause-fault
-returns-in-Some-clause-fault c = rw c.in-Some.is c.require_said.ensures.fault
