@@ -1,16 +1,13 @@
 -- Where a name would stand among ascending names that lack it.
-use Rattle.std.proofs.Common.{◌≡◌, ℕ, ◌+◌, ◌<◌, ◌≤◌, T, IsTrue, List, [], ◌∷◌, None, length, get_or, refl, sym, ap, ◌∙◌, arith, inl, inr, suc, zero}
+use Rattle.std.proofs.Common.{◌≡◌, ℕ, ◌+◌, ◌<◌, ◌≤◌, T, IsTrue, List, [], ◌∷◌, None, length, map, get_or, refl, sym, ap, ◌∙◌, arith, inl, inr, suc, zero}
 use Rattle.std.specs.FinMap.{find, is_sorted}
-use Rattle.std.specs.declared.alloc.Global.{Global}
 use Rattle.std.specs.Ordering.{is_gt}
 use Rattle.std.specs.declared.cmp.Ordering.{Ordering}
 use Rattle.std.specs.declared.cmp.Ordering.TheVariants.{Less, Equal, Greater}
-use Rattle.std.specs.declared.rc.RcStr.{RcStr}
-use Rattle.std.specs.Rc.{rc_str_bytes}
 use Rattle.std.proofs.lemmas.Bool.{cases_lt}
 use Rattle.std.proofs.lemmas.List.{get_or_default, length-map}
 use Rattle.std.proofs.Math.ListN.{get_or-map}
-use Rattle.attributes.specs.Headers.{Entry, header_view, headers_view, name_cmp}
+use Rattle.attributes.specs.Headers.{Entry, name_cmp}
 use Rattle.attributes.specs.steps.Headers.{AreBefore, AreBehind}
 use Rattle.attributes.proofs.Places.{above_first, put_between}
 use Rattle.attributes.proofs.TextOrder.{IsBefore, after_from_before, before_from_greater, before_trans, both_first, both_second, t_from_true}
@@ -56,34 +53,40 @@ module _ (es : List Entry) (i : ℕ) (e : Entry) (name : List ℕ) (up : T (is_s
         rw (same, at d) last
   ]
 
--- a header as it is kept
-abbrev pub Pair : Type 0
-Pair = RcStr Global × RcStr Global
-
-module _ (xs : List Pair) (i : ℕ) (x : Pair) (name : List ℕ)
-    (up : IsTrue (is_sorted name_cmp (headers_view xs))) (below : i < length xs)
+module _ {X : Type 0} (view : X → Entry) (xs : List X) (i : ℕ) (x : X) (name : List ℕ)
+    (up : IsTrue (is_sorted name_cmp (map view xs))) (below : i < length xs)
     (there : x ≡ get_or xs i x) where
-  kept : get_or (headers_view xs) i (header_view x) ≡ header_view x
-  kept = get_or-map header_view xs i x ∙ ap header_view (sym there)
+  kept : get_or (map view xs) i (view x) ≡ view x
+  kept = get_or-map view xs i x ∙ ap view (sym there)
 
-  under : i < length (headers_view xs)
-  under = let long = length-map xs header_view in omega (arith, below, long)
+  under : i < length (map view xs)
+  under = let long = length-map xs view in omega (arith, below, long)
 
   -- where the last of the headers before a place is before the name, all are
-  pub all_before_header : IsBefore (rc_str_bytes x.0) name → AreBefore (i + 1) name (headers_view xs)
-  all_before_header =
-      all_before_entry (headers_view xs) i (header_view x) name (t_from_true _ up) under kept
+  all_before_header : IsBefore (view x).0 name → AreBefore (i + 1) name (map view xs)
+  all_before_header = all_before_entry (map view xs) i (view x) name (t_from_true _ up) under kept
 
   -- where the first of the headers from a place on is after the name, all are
-  pub all_behind_header : name_cmp (rc_str_bytes x.0) name ≡ Greater
-      → AreBehind i name (headers_view xs)
-  all_behind_header =
-      all_behind_entry (headers_view xs) i (header_view x) name (t_from_true _ up) under kept
+  all_behind_header : name_cmp (view x).0 name ≡ Greater → AreBehind i name (map view xs)
+  all_behind_header = all_behind_entry (map view xs) i (view x) name (t_from_true _ up) under kept
+
+-- the same for the header at a place, whatever stands for one past the end
+module _ {X : Type 0} (view : X → Entry) (xs : List X) (i : ℕ) (d : X) (name : List ℕ)
+    (up : IsTrue (is_sorted name_cmp (map view xs))) (below : i < length xs) where
+  here : get_or xs i d ≡ get_or xs i (get_or xs i d)
+  here = get_or_default xs i d (get_or xs i d) below
+
+  pub all_before_place : IsBefore (view (get_or xs i d)).0 name → AreBefore (i + 1) name (map view xs)
+  all_before_place = all_before_header view xs i (get_or xs i d) name up below here
+
+  pub all_behind_place : name_cmp (view (get_or xs i d)).0 name ≡ Greater
+      → AreBehind i name (map view xs)
+  all_behind_place = all_behind_header view xs i (get_or xs i d) name up below here
 
 -- a name between those before and those behind is not there
-pub absent_between : (xs : List Pair) (i : ℕ) (name : List ℕ) → i ≤ length xs
-    → AreBefore i name (headers_view xs) → AreBehind i name (headers_view xs)
-    → find name_cmp name (headers_view xs) ≡ None
-absent_between xs i name fits low high =
-    let long : length (headers_view xs) ≡ length xs = length-map xs header_view in
-    (put_between name [] (headers_view xs) i (omega (arith, fits, long)) low high).1
+pub absent_between : {X : Type 0} (view : X → Entry) (xs : List X) (i : ℕ) (name : List ℕ)
+    → i ≤ length xs → AreBefore i name (map view xs) → AreBehind i name (map view xs)
+    → find name_cmp name (map view xs) ≡ None
+absent_between view xs i name fits low high =
+    let long : length (map view xs) ≡ length xs = length-map xs view in
+    (put_between name [] (map view xs) i (omega (arith, fits, long)) low high).1

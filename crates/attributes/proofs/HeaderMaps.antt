@@ -1,13 +1,11 @@
 -- Headers as a finite map, and as its entries in order.
-use Rattle.std.proofs.Common.{◌≡◌, ℕ, ◌↔◌, IsTrue, true, false, All, List, [], ◌∷◌, Some, None, refl, sym, ◌∙◌, cond, suc, arith}
+use Rattle.std.proofs.Common.{◌≡◌, ℕ, ◌↔◌, IsTrue, true, false, All, List, [], ◌∷◌, Some, None, refl, sym, ◌∙◌, cond, map, suc, arith}
 use Rattle.std.specs.FinMap.{entries, entries-from_sorted, entries_sorted, find, from_sorted, get, get-entries, is_sorted, same_entries_map}
 use Rattle.std.specs.Ordering.{eq_by_cmp}
-use Rattle.std.specs.declared.alloc.Global.{Global}
-use Rattle.std.specs.declared.rc.RcStr.{RcStr}
 use Rattle.std.proofs.lemmas.List.{length-map}
 use Rattle.std.proofs.lemmas.List.Elements.{All-map}
 use Rattle.std.proofs.Math.ListN.{get_or-map}
-use Rattle.attributes.specs.Headers.{Entry, HeaderMap, header_view, headers_view, name_cmp}
+use Rattle.attributes.specs.Headers.{Entry, HeaderMap, name_cmp}
 use Rattle.attributes.proofs.TextOrder.{same_from_test, ties_by_test, true_from_t}
 
 -- the entries of a map are in order
@@ -20,13 +18,12 @@ from_sorted_entries m =
     same_entries_map (from_sorted (entries m)) m
     (entries-from_sorted name_cmp (entries m) (entries_sorted m))
 
--- what holds of each entry holds of each header as it is kept
-pub all_headers : (P : Entry → Type 0) (headers : List (RcStr Global × RcStr Global))
-    → All P (headers_view headers) ↔ All (λ header. P (header_view header)) headers
-all_headers P headers = (
-  λ h k d below. rw (get_or-map header_view headers k d) at
-      (h k (header_view d) (rw (length-map headers header_view) below)),
-  All-map P header_view headers,
+-- what holds of each entry holds of what each is a view of
+pub all_views : {X : Type 0} (view : X → Entry) (P : Entry → Type 0) (xs : List X)
+    → All P (map view xs) ↔ All (λ x. P (view x)) xs
+all_views view P xs = (
+  λ h k d below. rw (get_or-map view xs k d) at (h k (view d) (rw (length-map xs view) below)),
+  All-map P view xs,
 )
 
 find_all : (P : Entry → Type 0) (es : List Entry) → All P es → (name value : List ℕ)

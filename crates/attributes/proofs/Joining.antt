@@ -42,7 +42,7 @@ abbrev pub added : Option (List ℕ) → List ℕ → List ℕ
 added None v = v
 added (Some w) v = w ++ 44 ∷ v
 
-joined_added : (vs : List (List ℕ)) (v : List ℕ)
+pub joined_added : (vs : List (List ℕ)) (v : List ℕ)
     → joined (vs ++ v ∷ []) ≡ Some (added (joined vs) v)
 joined_added [] v = refl
 joined_added (u ∷ us) v = ap Some (with_commas_more u us v)

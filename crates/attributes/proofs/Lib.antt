@@ -1,13 +1,18 @@
 pub mod TextOrder
 pub mod HeaderMaps
-pub mod Lines
 pub mod Joining
 pub mod Places
 pub mod Neighbours
 pub mod Sorting
 pub mod Searching
-pub mod Adding
 mod Gaps
+mod Parts
+mod Spots
+mod Cutting
+mod OwnHeaders
+mod JoinSteps
+mod Drafts
+mod Finishing
 pub mod AddressText
 pub mod OneAddress
 pub mod Facts

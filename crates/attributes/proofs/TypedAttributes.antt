@@ -40,16 +40,18 @@ module _ (c : ℕ) (ascii : c < 128) (bs : List ℕ) (texts : IsUtf8 bs) where
     | inr end ↦ rw (drop_all (n + 1) bs (omega (arith, end))) IsUtf8-nil
   ]
 
-module _ (r : RequestValue) (sound : IsRequest r) where
-  whole_text : IsUtf8 (without_fragment r.target)
-  whole_text = is_utf8_before_first 35 (lit< tt) r.target sound.target
+module _ (target : List ℕ) (sound : IsUtf8 target) where
+  whole_text : IsUtf8 (without_fragment target)
+  whole_text = is_utf8_before_first 35 (lit< tt) target sound
 
-  path_text : IsUtf8 (url_path_of r.target)
+  -- the path and the query of a target are texts
+  pub path_text : IsUtf8 (url_path_of target)
   path_text = is_utf8_before_first 63 (lit< tt) _ whole_text
 
-  query_text : IsUtf8 (query_of r.target)
+  pub query_text : IsUtf8 (query_of target)
   query_text = is_utf8_after_first 63 (lit< tt) _ whole_text
 
+module _ (r : RequestValue) (sound : IsRequest r) where
   protocol_text : (b : Bool) → IsUtf8 (protocol_of b)
   unfolding lib.Utf8.encode
   protocol_text true = (codes "HTTP/1.1", (refl, refl))
@@ -84,7 +86,7 @@ module _ (r : RequestValue) (sound : IsRequest r) where
   -- an attribute that is there has its type
   pub attr_typed : (id : AttrId) → IfSome (attr_of r id) (HasAttrType (attr_type id))
   attr_typed AttrId.RequestPath = sound.target
-  attr_typed AttrId.RequestUrlPath = path_text
+  attr_typed AttrId.RequestUrlPath = path_text r.target sound.target
   attr_typed AttrId.RequestHost = header_text (codes ":authority")
   attr_typed AttrId.RequestScheme = sound.facts.texts.1.1.1.1.1.1.1.0
   attr_typed AttrId.RequestMethod = sound.method
@@ -93,7 +95,7 @@ module _ (r : RequestValue) (sound : IsRequest r) where
   attr_typed AttrId.RequestUseragent = header_text (codes "user-agent")
   attr_typed AttrId.RequestId = header_text (codes "x-request-id")
   attr_typed AttrId.RequestProtocol = protocol_text r.http11
-  attr_typed AttrId.RequestQuery = query_text
+  attr_typed AttrId.RequestQuery = query_text r.target sound.target
   attr_typed AttrId.SourceAddress = fact_text r.facts.source_address sound.facts.texts.0
   attr_typed AttrId.SourcePort = port_type r.facts.source_port sound.facts.source_port
   attr_typed AttrId.DestinationAddress =

@@ -3,7 +3,6 @@ use Rattle.std.specs.Prelude.{ℕ, ◌^◌, ◌<◌, ℤ, pos, FitsSigned, Bool,
 use Rattle.std.specs.List.{before_first, after_first}
 use Rattle.std.specs.FinMap.{from_sorted, is_sorted}
 use Rattle.std.specs.Int.{w64}
-use Rattle.std.specs.Rc.{rc_str_bytes}
 use Rattle.attributes.specs.Headers.{HeaderMap, name_cmp}
 use Rattle.attributes.specs.Request.{AreTextHeaders, RequestValue, header_of, protocol_of}
 use Rattle.attributes.specs.declared.attribute.AttrId.{AttrId}
@@ -23,7 +22,7 @@ pub data AttrData : Type 0 where
 -- the value that an attribute's value in the code means, without its place in memory. Pairs mean a
 -- map, if their names ascend
 abbrev pub attr_view : AttrValue → AttrData
-attr_view (values.Text t) = text (rc_str_bytes t.now)
+attr_view (values.Text t) = text t.now
 attr_view (values.Int n) = int n
 attr_view (values.Uint n) = uint n
 attr_view (values.Bool b) = bool b

@@ -1,6 +1,7 @@
 pub mod Address
 pub mod Conn
 pub mod Headers
+pub mod Draft
 pub mod Request
 pub mod Limits
 pub mod Attributes

@@ -1,3 +1,5 @@
 -- Definitions that only clauses of private functions cite.
 pub mod Headers
+pub mod Parts
+pub mod Drafts
 pub mod Request

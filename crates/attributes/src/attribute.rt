@@ -3,7 +3,7 @@ ghost use Rattle.std.specs.Prelude.{◌≡◌, ◌↔◌, IfSome, Some, find, op
 ghost use Rattle.std.specs.Str.{bytes_eq};
 ghost use Rattle.attributes.specs.Attributes.{HasSortedPairs, attr_name, attr_of, attr_view, port_data, text, attr_type};
 ghost use Rattle.attributes.specs.declared.attribute.AttrId.{AttrId};
-ghost use Rattle.attributes.specs.Conn.{conn_view};
+ghost use Rattle.attributes.specs.Conn.{conn_view, text_view};
 ghost use Rattle.attributes.specs.Request.{IsRequest};
 ghost use Rattle.attributes.specs.steps.Request.{lent_view};
 
@@ -75,11 +75,11 @@ pub enum AttrType {
     TextMap,
 }
 
-/// The value of an attribute, lent by the request. To keep a text or the pairs, clone the handle.
+/// The value of an attribute, lent by the request. To keep a text or the pairs, copy them.
 #[derive(Clone, Copy, Debug)]
 pub enum AttrValue<'a> {
     /// A text.
-    Text(&'a RcStr),
+    Text(&'a str),
     /// A signed number: a port.
     Int(i64),
     /// An unsigned number: that of the connection.
@@ -182,45 +182,55 @@ impl Request {
     {
         let conn = self.conn();
         match id {
-            AttrId::RequestPath => Some(AttrValue::Text(self.target_text())),
-            AttrId::RequestUrlPath => Some(AttrValue::Text(self.url_path_text())),
-            AttrId::RequestHost => text_value(self.header_text(":authority")),
-            AttrId::RequestScheme => Some(AttrValue::Text(&conn.scheme)),
-            AttrId::RequestMethod => Some(AttrValue::Text(self.method_text())),
+            AttrId::RequestPath => Some(AttrValue::Text(self.target())),
+            AttrId::RequestUrlPath => Some(AttrValue::Text(self.url_path())),
+            AttrId::RequestHost => text_value(self.header(":authority")),
+            AttrId::RequestScheme => Some(AttrValue::Text(conn.scheme.as_str())),
+            AttrId::RequestMethod => Some(AttrValue::Text(self.method())),
             AttrId::RequestHeaders => Some(AttrValue::Pairs(self.headers())),
-            AttrId::RequestReferer => text_value(self.header_text("referer")),
-            AttrId::RequestUseragent => text_value(self.header_text("user-agent")),
-            AttrId::RequestId => text_value(self.header_text("x-request-id")),
-            AttrId::RequestProtocol => Some(AttrValue::Text(self.protocol_text())),
-            AttrId::RequestQuery => Some(AttrValue::Text(self.query_text())),
-            AttrId::SourceAddress => text_value(conn.source_address.as_ref()),
+            AttrId::RequestReferer => text_value(self.header("referer")),
+            AttrId::RequestUseragent => text_value(self.header("user-agent")),
+            AttrId::RequestId => text_value(self.header("x-request-id")),
+            AttrId::RequestProtocol => Some(AttrValue::Text(self.protocol())),
+            AttrId::RequestQuery => Some(AttrValue::Text(self.query())),
+            AttrId::SourceAddress => text_value(lent_text(&conn.source_address)),
             AttrId::SourcePort => port_value(conn.source_port),
-            AttrId::DestinationAddress => text_value(conn.destination_address.as_ref()),
+            AttrId::DestinationAddress => text_value(lent_text(&conn.destination_address)),
             AttrId::DestinationPort => port_value(conn.destination_port),
             AttrId::ConnectionMtls => Some(AttrValue::Bool(conn.mtls?)),
             AttrId::ConnectionId => Some(AttrValue::Uint(conn.connection_id?)),
             AttrId::ConnectionRequestedServerName => {
-                text_value(conn.requested_server_name.as_ref())
+                text_value(lent_text(&conn.requested_server_name))
             }
-            AttrId::ConnectionTlsVersion => text_value(conn.tls_version.as_ref()),
+            AttrId::ConnectionTlsVersion => text_value(lent_text(&conn.tls_version)),
             AttrId::ConnectionSubjectPeerCertificate => {
-                text_value(conn.subject_peer_certificate.as_ref())
+                text_value(lent_text(&conn.subject_peer_certificate))
             }
             AttrId::ConnectionDnsSanPeerCertificate => {
-                text_value(conn.dns_san_peer_certificate.as_ref())
+                text_value(lent_text(&conn.dns_san_peer_certificate))
             }
             AttrId::ConnectionUriSanPeerCertificate => {
-                text_value(conn.uri_san_peer_certificate.as_ref())
+                text_value(lent_text(&conn.uri_san_peer_certificate))
             }
         }
     }
 }
 
-fn text_value(found: Option<&RcStr>) -> Option<AttrValue<'_>>
+fn text_value(found: Option<&str>) -> Option<AttrValue<'_>>
     ensures value { option_map attr_view result ≡ option_map text (lent_view found.entry) }
     ensures ordered { IfSome result HasSortedPairs }
 {
     Some(AttrValue::Text(found?))
+}
+
+// The text, if there is one.
+fn lent_text(text: &Option<RcStr>) -> Option<&str>
+    ensures { lent_view result ≡ text_view text.now }
+{
+    match text {
+        Some(text) => Some(text.as_str()),
+        None => None,
+    }
 }
 
 fn port_value<'a>(port: Option<u16>) -> Option<AttrValue<'a>>

@@ -4,16 +4,18 @@
 mod address;
 mod attribute;
 mod conn;
+mod draft;
 mod headers;
 pub mod laws;
 mod limits;
 mod lookup;
+mod part;
 mod request;
 
 pub use address::{Cidr, Ip, parse_ip};
 pub use attribute::{AttrId, AttrType, AttrValue, attr_named, attr_type};
 pub use conn::Conn;
-pub use headers::Header;
+pub use draft::{Draft, Room};
 pub use limits::{Limit, LimitFault, Limits};
-pub use lookup::Headers;
+pub use lookup::{Header, Headers};
 pub use request::{Request, request_is_sound};

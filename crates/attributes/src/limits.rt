@@ -3,12 +3,10 @@ ghost use Rattle.std.specs.Prelude.{◌≡◌, ◌+◌, ◌≤◌, ◌↔◌, If
 ghost use Rattle.std.specs.FinMap.{entries};
 ghost use Rattle.std.specs.Result.{result_err};
 ghost use Rattle.attributes.specs.Conn.{AreFacts, conn_view, text_view};
-ghost use Rattle.attributes.specs.Headers.{header_view};
 ghost use Rattle.attributes.specs.Request.{protocol_of};
 ghost use Rattle.attributes.specs.Limits.{AreLimits, FactsInLimits, InLimits, IsWithin, EntryInLimits, declared, first_fault, largest, limit_fault, limit_of, name_of};
 
 use crate::conn::{Conn, facts_are_sound};
-use crate::headers::Header;
 use crate::request::Request;
 use std::error::Error;
 use std::fmt;
@@ -239,21 +237,14 @@ impl Limits {
     {
         request.method().len() <= self.method
             && request.target().len() <= self.target
-            && request.protocol_text().len() <= self.text
+            && request.protocol().len() <= self.text
     }
 
     // Whether each header's name and value are within their limits.
     fn fits_headers(&self, request: &Request) -> bool
         ensures { IsTrue result ↔ All (EntryInLimits self.now) (entries request.now.headers) }
     {
-        self.fits_pairs(request.headers().pairs().as_slice())
-    }
-
-    fn fits_pairs(&self, headers: &[Header]) -> bool
-        ensures { IsTrue result
-            ↔ All (λ header. EntryInLimits self.now (header_view header)) headers.now }
-    {
-        headers.iter().all(|(name, value)| name.len() <= self.name && value.len() <= self.value)
+        request.headers().are_within(self.name, self.value)
     }
 }
 

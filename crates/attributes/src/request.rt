@@ -1,59 +1,61 @@
 //! A request as values: its parts, its headers and the facts of its connection.
-ghost use Rattle.std.specs.Prelude.{◌≡◌, ◌<◌, ◌==◌, IfOk, IsTrue, length};
+ghost use Rattle.std.specs.Prelude.{◌≡◌, ◌<◌, ◌≤◌, ◌+◌, ◌^◌, ◌==◌, List, All, IfOk, IsTrue, length, map};
 ghost use Rattle.std.specs.FinMap.{entries, is_sorted};
 ghost use Rattle.std.specs.List.{after_first, before_first};
 ghost use Rattle.std.specs.Option.{option_copied};
-ghost use Rattle.std.specs.Rc.{rc_str_bytes};
 ghost use Rattle.std.specs.String.{string_bytes};
 ghost use Rattle.attributes.specs.Attributes.{query_of, url_path_of};
 ghost use Rattle.attributes.specs.Conn.{conn_view};
-ghost use Rattle.attributes.specs.Headers.{lines_view};
-ghost use Rattle.attributes.specs.Request.{IsRequest, header_of, protocol_of, request_of};
-ghost use Rattle.attributes.specs.steps.Request.{lent_view};
+ghost use Rattle.attributes.specs.Headers.{Entry, headers_of, line_entry, lines_view};
+ghost use Rattle.attributes.specs.Request.{IsRequest, IsTextEntry, header_of, protocol_of, request_of};
+ghost use Rattle.attributes.specs.steps.Parts.{AreFields, entries_in};
+ghost use Rattle.attributes.specs.steps.Request.{IsCut};
 
 use crate::conn::{Conn, facts_are_sound};
-use crate::headers::join_headers;
+use crate::draft::{Draft, Room, add_lines, add_own};
+use crate::headers::{Field, join_sorted, sort_by_name};
 use crate::lookup::Headers;
+use crate::part::Spot;
 use std::alloc::{AllocError, Global};
 use std::marker::Model;
-use std::rc::RcStr;
+use std::rc::Rc;
 
 /// A request: its method, target, version and headers, and the facts of its connection. Its texts
-/// are shared.
+/// are parts of one text, that of the headers.
 #[derive(Debug, Drop)]
 pub struct Request {
-    method: RcStr,
-    target: RcStr,
-    url_path: RcStr,
-    query: RcStr,
-    protocol: RcStr,
-    http11: bool,
-    lines: usize,
     headers: Headers,
-    conn: Conn,
+    // the end of the value of `:method`
+    method: Spot,
+    // the end of the value of `:path`, and parts of that
+    target: Spot,
+    url_path: Spot,
+    query: Spot,
+    lines: usize,
+    http11: bool,
+    conn: Rc<Conn>,
 }
 
 impl Model for Request {
-    ghost use Rattle.std.specs.Rc.{rc_str_bytes};
     ghost use Rattle.attributes.specs.Conn.{conn_view};
     ghost use Rattle.attributes.specs.Request.{RequestValue};
     ghost use Rattle.attributes.specs.contracts.address.Ip as ip;
     ghost use Rattle.std.specs.Coded.{codes};
     ghost use Rattle.attributes.specs.steps.Headers.{header_map_code};
-    ghost use Rattle.attributes.specs.steps.Request.{AreKept, of_parts};
+    ghost use Rattle.attributes.specs.steps.Parts.{spot_of};
+    ghost use Rattle.attributes.specs.steps.Request.{IsKept, of_parts};
 
     ghost Value = { RequestValue };
 
     ghost coded = { Prim.hlevel (codes, header_map_code, ip.the_row.coded) };
 
-    ghost view = { λ r. of_parts (rc_str_bytes r.method) (rc_str_bytes r.target) r.http11 r.lines
-        r.headers (conn_view r.conn) };
+    ghost view = { λ r. of_parts (spot_of r.headers r.method) (spot_of r.headers r.target)
+        r.http11 r.lines r.headers (conn_view r.conn.value) };
 
-    ghost invariant = { λ r. AreKept
-        (of_parts (rc_str_bytes r.method) (rc_str_bytes r.target) r.http11 r.lines
-        r.headers (conn_view r.conn))
-        r.headers (rc_str_bytes r.url_path) (rc_str_bytes r.query)
-        (rc_str_bytes r.protocol) };
+    ghost invariant = { λ r. IsKept
+        (of_parts (spot_of r.headers r.method) (spot_of r.headers r.target)
+        r.http11 r.lines r.headers (conn_view r.conn.value))
+        r.headers r.method r.target r.url_path r.query };
 }
 
 impl Request {
@@ -73,44 +75,35 @@ impl Request {
         ensures { IfOk result (λ r. r ≡ request_of (string_bytes method) (string_bytes target)
             http11 (lines_view lines.items) (conn_view conn)) }
     {
-        facts_are_sound(&conn);
-        let count = lines.len();
-        let method = RcStr::from_string(method)?;
-        let target = RcStr::from_string(target)?;
-        let headers = join_headers(alloc, &method, &target, &conn.scheme, lines)?;
-        let (path, query) = cut_target(target.as_str());
-        Ok(Request {
-            url_path: share_path(alloc, &target, path)?,
-            query: RcStr::from_str(alloc, query)?,
-            protocol: RcStr::from_str(alloc, protocol_text(http11))?,
-            method,
-            target,
-            http11,
-            lines: count,
-            headers: Headers::new(alloc, headers)?,
-            conn,
-        })
+        let room = Room {
+            lines: lines.len(),
+            bytes: method.len().saturating_add(target.len()),
+        };
+        let conn = Rc::new(alloc, conn)?;
+        let mut draft = Draft::new(alloc, method.as_str(), target.as_str(), room)?;
+        add_lines(&mut draft, lines.as_slice())?;
+        draft.finish(alloc, http11, conn)
     }
 
     /// The method, as it was sent.
     pub fn method(&self) -> &str
         ensures { result.now ≡ self.now.method }
     {
-        self.method.as_str()
+        self.headers.text_of(self.method)
     }
 
     /// The whole target.
     pub fn target(&self) -> &str
         ensures { result.now ≡ self.now.target }
     {
-        self.target.as_str()
+        self.headers.text_of(self.target)
     }
 
     /// The target before its first `#` and the first `?`.
     pub fn url_path(&self) -> &str
         ensures { result.now ≡ url_path_of self.now.target }
     {
-        self.url_path.as_str()
+        self.headers.text_of(self.url_path)
     }
 
     /// Whether the version is HTTP/1.1; else it is HTTP/1.0.
@@ -139,10 +132,7 @@ impl Request {
     pub fn header(&self, name: &str) -> Option<&str>
         ensures { option_copied result ≡ header_of self.now name.now }
     {
-        match self.header_text(name) {
-            Some(value) => Some(value.as_str()),
-            None => None,
-        }
+        self.headers.find(name)
     }
 
     /// The facts of the connection.
@@ -153,60 +143,120 @@ impl Request {
         &self.conn
     }
 
-    pub(crate) fn method_text(&self) -> &RcStr
-        ensures { rc_str_bytes result.now ≡ self.now.method }
+    pub(crate) fn query(&self) -> &str
+        ensures { result.now ≡ query_of self.now.target }
     {
-        &self.method
+        self.headers.text_of(self.query)
     }
 
-    pub(crate) fn target_text(&self) -> &RcStr
-        ensures { rc_str_bytes result.now ≡ self.now.target }
+    pub(crate) fn protocol(&self) -> &'static str
+        ensures { result.now ≡ protocol_of self.now.http11 }
     {
-        &self.target
-    }
-
-    pub(crate) fn url_path_text(&self) -> &RcStr
-        ensures { rc_str_bytes result.now ≡ url_path_of self.now.target }
-    {
-        &self.url_path
-    }
-
-    pub(crate) fn query_text(&self) -> &RcStr
-        ensures { rc_str_bytes result.now ≡ query_of self.now.target }
-    {
-        &self.query
-    }
-
-    pub(crate) fn protocol_text(&self) -> &RcStr
-        ensures { rc_str_bytes result.now ≡ protocol_of self.now.http11 }
-    {
-        &self.protocol
-    }
-
-    pub(crate) fn header_text(&self, name: &str) -> Option<&RcStr>
-        ensures { lent_view result ≡ header_of self.now name.now }
-    {
-        self.headers.find(name)
+        protocol_text(self.http11)
     }
 }
 
-// The target before its first `#` and the first `?`, and the part between the two.
-fn cut_target(target: &str) -> (&str, &str)
-    ensures path { result.0.now ≡ url_path_of target.now }
-    ensures query { result.1.now ≡ query_of target.now }
-{
-    cut(before(target, '#'), '?')
+impl Draft {
+    /// The request of this draft, of HTTP/1.1 or, if not, of HTTP/1.0. The values of one name are
+    /// joined with `,` (RFC 9110 section 5.3). The pseudo-headers `:method`, `:path` and `:scheme`
+    /// are added.
+    pub fn finish(self, alloc: Global, http11: bool, conn: Rc<Conn>) -> Result<Request, AllocError>
+        ensures { IfOk result (λ r. (lines : List Entry) → self.entries ≡ map line_entry lines
+            → r ≡ request_of self.method self.target http11 lines (conn_view conn.value)) }
+    {
+        facts_are_sound(&conn);
+        let Draft {
+            mut text,
+            mut fields,
+            method,
+            target,
+        } = self;
+        let lines = fields.len();
+        add_own(&mut text, &mut fields, method, target, conn.scheme.as_str())?;
+        let headers = sorted_headers(alloc, text, fields)?;
+        let method = headers.end_of(":method", method.len());
+        let target = headers.end_of(":path", target.len());
+        let cut = cut_target(headers.text_of(target));
+        Ok(Request {
+            headers,
+            method,
+            target,
+            url_path: cut.url_path(target),
+            query: cut.query(target),
+            lines,
+            http11,
+            conn,
+        })
+    }
 }
 
-// The path of the target; shares the target's text if both are the same.
-fn share_path(alloc: Global, target: &RcStr, path: &str) -> Result<RcStr, AllocError>
-    requires { path.now ≡ url_path_of (rc_str_bytes target.now) }
-    ensures { IfOk result (λ text. rc_str_bytes text ≡ url_path_of (rc_str_bytes target.now)) }
+// The headers of these fields.
+fn sorted_headers(alloc: Global, text: Vec<u8>, fields: Vec<Field>) -> Result<Headers, AllocError>
+    requires { AreFields text.items fields.items }
+    ensures joined { IfOk result (λ headers.
+        headers ≡ entries (headers_of (entries_in text.items fields.items))) }
+    ensures texts { IfOk result (λ headers. All IsTextEntry headers) }
 {
-    if path.len() == target.len() {
-        target.clone()
-    } else {
-        RcStr::from_str(alloc, path)
+    let mut text = text;
+    let mut fields = fields;
+    sort_by_name(text.as_slice(), &mut fields)?;
+    let joined = join_sorted(alloc, &mut text, fields.as_slice())?;
+    Ok(Headers::new(text, joined))
+}
+
+// Where the path ends in a target, and where its query begins and ends.
+#[derive(Clone, Copy)]
+struct CutPlaces {
+    path_end: usize,
+    query_from: usize,
+    query_to: usize,
+}
+
+impl CutPlaces {
+    // The path of the target that is here.
+    fn url_path(self, target: Spot) -> Spot
+        requires { target.from + self.path_end < 2 ^ 64 }
+        ensures { result ≡ (record {
+          index = target.index;
+          from = target.from;
+          to = target.from + self.path_end;
+        }) }
+    {
+        Spot {
+            index: target.index,
+            from: target.from,
+            to: target.from + self.path_end,
+        }
+    }
+
+    // The query of the target that is here.
+    fn query(self, target: Spot) -> Spot
+        requires fits { target.from + self.query_to < 2 ^ 64 }
+        requires ordered { self.query_from ≤ self.query_to }
+        ensures { result ≡ (record {
+          index = target.index;
+          from = target.from + self.query_from;
+          to = target.from + self.query_to;
+        }) }
+    {
+        Spot {
+            index: target.index,
+            from: target.from + self.query_from,
+            to: target.from + self.query_to,
+        }
+    }
+}
+
+// Where the target is cut at its first `#`, and before that at the first `?`.
+fn cut_target(target: &str) -> CutPlaces
+    ensures { IsCut target.now result }
+{
+    let whole = before(target, '#');
+    let (path, query) = cut(whole, '?');
+    CutPlaces {
+        path_end: path.len(),
+        query_from: whole.len() - query.len(),
+        query_to: whole.len(),
     }
 }
 

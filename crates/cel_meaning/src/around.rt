@@ -106,7 +106,7 @@ impl<'c, 't> Around<'c, 't> {
             (name_answer self.now.request.now (text_view name.now) (option_map (λ a. a.0) found)) (place_of found)) }
     {
         let found = find(self.known, name);
-        let answer = name_answer(name, self.request, found)?;
+        let answer = name_answer(self.alloc, name, self.request, found)?;
         self.settled(tree, answer, place_of(found)?)
     }
 

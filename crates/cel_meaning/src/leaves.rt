@@ -33,6 +33,7 @@ pub(super) fn constant_value(constant: &Constant) -> Result<Value, AllocError>
 
 /// The answer of a name: of the local of that name, if there is one, or of the attribute.
 pub(super) fn name_answer(
+    alloc: Global,
     name: &RcStr,
     request: &Request,
     local: Option<&Placed<'_>>,
@@ -42,7 +43,7 @@ pub(super) fn name_answer(
 {
     match local {
         Some(placed) => Ok(Some(copy_answer(&placed.answer)?)),
-        None => attribute_answer(name.as_str(), request),
+        None => attribute_answer(alloc, name.as_str(), request),
     }
 }
 
@@ -57,38 +58,42 @@ pub(super) fn field_answer(
         (joined_name (text_view root.now) (text_view field.now))) }
 {
     let name = joined_name(alloc, root.as_str(), field.as_str())?;
-    attribute_answer(&name, request)
+    attribute_answer(alloc, &name, request)
 }
 
-fn attribute_answer(name: &str, request: &Request) -> Result<Option<Answer>, AllocError>
+fn attribute_answer(
+    alloc: Global,
+    name: &str,
+    request: &Request,
+) -> Result<Option<Answer>, AllocError>
     ensures { IfOk result (λ found. option_map answer_view found ≡ attribute_answer request.now (points_of name.now)) }
 {
     match attribute_named(name) {
-        Some(id) => Ok(Some(read_attribute(request, id)?)),
+        Some(id) => Ok(Some(read_attribute(alloc, request, id)?)),
         None => Ok(None),
     }
 }
 
-// An attribute of the request, or `MissingAttribute`.
-fn read_attribute(request: &Request, id: AttrId) -> Result<Answer, AllocError>
+// A copy of an attribute of the request, or `MissingAttribute`.
+fn read_attribute(alloc: Global, request: &Request, id: AttrId) -> Result<Answer, AllocError>
     ensures { IfOk result (λ answer. answer_view answer ≡ attribute request.now id) }
 {
     match request.attr(id) {
-        Some(found) => Ok(Ok(share_value(found)?)),
+        Some(found) => Ok(Ok(copy_value(alloc, found)?)),
         None => Ok(Err(CelError::MissingAttribute)),
     }
 }
 
-// The attribute as a value that shares its text or pairs.
-fn share_value(found: AttrValue<'_>) -> Result<Value, AllocError>
+// The attribute as a value with a copy of its text or pairs.
+fn copy_value(alloc: Global, found: AttrValue<'_>) -> Result<Value, AllocError>
     requires { HasSortedPairs found }
     ensures { IfOk result (λ value. value_view value ≡ attribute_value (attr_view found.entry)) }
 {
     match found {
-        AttrValue::Text(text) => Ok(Value::Text(text.clone()?)),
+        AttrValue::Text(text) => Ok(Value::Text(RcStr::from_str(alloc, text)?)),
         AttrValue::Int(n) => Ok(Value::Int(n)),
         AttrValue::Uint(n) => Ok(Value::Uint(n)),
         AttrValue::Bool(b) => Ok(Value::Bool(b)),
-        AttrValue::Pairs(headers) => Ok(Value::Map(Map::Texts(headers.pairs().clone()?))),
+        AttrValue::Pairs(headers) => Ok(Value::Map(Map::Texts(headers.to_pairs(alloc)?))),
     }
 }

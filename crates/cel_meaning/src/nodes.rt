@@ -113,9 +113,13 @@ fn eval_select<'t>(
         None => Ok((None, None)),
         Some(Placed { answer, place }) => {
             if test_only {
-                return Ok((has_field(field, &answer), place));
+                let has = has_field(field, &answer);
+                drop(answer);
+                return Ok((has, place));
             }
-            Ok((select_field(field, &answer)?, place))
+            let selected = select_field(field, &answer);
+            drop(answer);
+            Ok((selected?, place))
         }
     }
 }
@@ -291,8 +295,14 @@ fn eval_turn<'t>(
                 None => Ok(Turned::Nothing),
             }
         }
-        Ok(Value::Bool(false)) => Ok(Turned::Ends),
-        Ok(_) => Ok(Turned::Nothing),
+        Ok(Value::Bool(false)) => {
+            drop(condition);
+            Ok(Turned::Ends)
+        }
+        Ok(_) => {
+            drop(condition);
+            Ok(Turned::Nothing)
+        }
         Err(_) => Ok(Turned::Fails(condition)),
     }
 }

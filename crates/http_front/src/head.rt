@@ -15,14 +15,15 @@ ghost use Rattle.http_front.specs.Rules.{IsBadLength, IsBadText, IsOriginForm, R
 use crate::body::body_length;
 use crate::closing::list_close;
 use crate::fault::{HeadFault, HeadPart};
-use crate::fields::{copy_text, lower_lines};
+use crate::fields::{add_fields, lower_lines, text_of};
 use crate::framing::framing_of;
 use crate::part::part_of;
-use attributes::{Conn, Limit, Limits, Request};
+use attributes::{Conn, Draft, Limit, Limits, Request, Room};
 use httparse::spans::{HeaderSpan, parse_request};
 use httparse::{Error, Status};
 use std::alloc::{AllocError, Global};
 use std::marker::Model;
+use std::rc::Rc;
 use std::str;
 
 /// A whole head as it was sent.
@@ -127,10 +128,13 @@ impl<'a> Head<'a> {
         requires { AreTexts self.now }
         ensures { IfOk result (λ r. r ≡ request_of_head self.now (conn_view conn)) }
     {
-        let method = copy_text(alloc, self.method)?;
-        let target = copy_text(alloc, self.target)?;
-        let lines = lower_lines(alloc, self.bytes, self.fields)?;
-        Request::new(alloc, method, target, self.is_http11, lines, conn)
+        let room = Room {
+            lines: self.fields.len(),
+            bytes: self.bytes.len(),
+        };
+        let mut draft = Draft::new(alloc, text_of(self.method), text_of(self.target), room)?;
+        add_fields(&mut draft, self.bytes, self.fields)?;
+        draft.finish(alloc, self.is_http11, Rc::new(alloc, conn)?)
     }
 
     /// The field lines of the head, each a name in lower case and a value.

@@ -3,12 +3,13 @@
 ghost use Rattle.std.specs.Prelude.{◌≡◌, IfOk, Ok, Some, option_map, pos, slice_get, zero};
 ghost use Rattle.cel_value.specs.View.{answer_view, entries_view, map_view, pairs_view, value_view, values_view};
 ghost use Rattle.cel_ops.specs.Arithmetic.{int_answer};
+ghost use Rattle.cel_ops.specs.Attributes.{header_entries};
 ghost use Rattle.cel_ops.specs.Collections.{keyed, numbered};
 ghost use Rattle.stack_machine.specs.steps.Held.{held_view};
 ghost use Rattle.stack_machine.specs.steps.Pairs.{pair_answers, pair_view};
 
 use crate::held::Held;
-use attributes::Header;
+use attributes::Headers;
 use cel_value::{CelError, Key, Map, Value};
 use std::alloc::AllocError;
 use std::rc::RcStr;
@@ -88,28 +89,23 @@ fn text_pair<'a>(
     ensures { IfOk result (λ found. option_map pair_view found
         ≡ option_map pair_answers (slice_get (keyed (pairs_view pairs.now)) index)) }
 {
-    match header_pair(pairs, index) {
-        Some(lent) => Ok(Some((owned(&lent.0)?, owned(&lent.1)?))),
-        None => Ok(None),
+    if index < pairs.len() {
+        let pair = &pairs[index];
+        let name = Held::Text(pair.0.clone()?);
+        let value = Held::Text(pair.1.clone()?);
+        return Ok(Some((name, value)));
     }
-}
-
-// A copy of the result that is not lent.
-fn owned<'a>(held: &Held<'_>) -> Result<Held<'a>, AllocError>
-    ensures { IfOk result (λ copy. held_view copy ≡ held_view held.now) }
-{
-    Ok(Held::of(held.answer()?))
+    Ok(None)
 }
 
 /// The name and the value of a header at an index, lent.
 #[inline(always)]
-pub(crate) fn header_pair(headers: &[Header], index: usize) -> Option<(Held<'_>, Held<'_>)>
+pub(crate) fn header_pair(headers: &Headers, index: usize) -> Option<(Held<'_>, Held<'_>)>
     ensures { option_map pair_view result
-        ≡ option_map pair_answers (slice_get (keyed (pairs_view headers.now)) index) }
+        ≡ option_map pair_answers (slice_get (keyed (header_entries headers.now)) index) }
 {
-    if index < headers.len() {
-        let header = &headers[index];
-        return Some((Held::Lent(&header.0), Held::Lent(&header.1)));
+    match headers.get(index) {
+        Some((name, value)) => Some((Held::Part(name), Held::Part(value))),
+        None => None,
     }
-    None
 }

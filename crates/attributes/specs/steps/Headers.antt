@@ -1,13 +1,11 @@
 -- How the code makes and searches the headers of a request.
 use Rattle.std.specs.Prelude.{◌≡◌, ℕ, ◌<◌, ◌≤◌, List, [], ◌∷◌, Option, Some, None, Result, Ok, Err, get_or, length}
 use Rattle.std.specs.Coded.{Coded, coded_list, coded_ℕ}
-use Rattle.std.specs.FinMap.{code, entries, find, get}
+use Rattle.std.specs.FinMap.{code, find, get}
 use Rattle.std.specs.FinMap.Entries.{put}
 use Rattle.std.specs.List.{insert, slice_get, slice_set}
-use Rattle.std.specs.declared.alloc.Global.{Global}
 use Rattle.std.specs.declared.cmp.Ordering.TheVariants.{Greater, Less}
-use Rattle.std.specs.declared.rc.RcStr.{RcStr}
-use Rattle.attributes.specs.Headers.{Entry, HeaderMap, headers_of, headers_view, name_cmp, values_of, with_commas}
+use Rattle.attributes.specs.Headers.{Entry, HeaderMap, name_cmp, values_of, with_commas}
 
 -- the values of one name joined; none if there are no values
 abbrev pub joined : List (List ℕ) → Option (List ℕ)
@@ -21,10 +19,6 @@ AreJoined es headers = (name : List ℕ) → get headers name ≡ joined (values
 -- the code of header maps (`Coded` of std), from the codes of names and values
 abbrev pub header_map_code : Coded HeaderMap
 header_map_code = code (coded_list coded_ℕ) (coded_list coded_ℕ)
-
--- the pairs are the headers of these entries, by ascending name
-abbrev pub AreHeadersOf : List (RcStr Global × RcStr Global) → List Entry → Type 0
-AreHeadersOf headers es = headers_view headers ≡ entries (headers_of es)
 
 -- no name is less than the one before it
 abbrev pub AreSorted : List Entry → Type 0

@@ -1,4 +1,4 @@
-use Rattle.cel_types.proofs.CheckSteps.{empty_name}
+use Rattle.cel_types.proofs.CheckNames.{empty_name}
 use Rattle.cel_meaning.proofs.known.is_nameless.Goals as goal
 
 pub returns : goal.returns

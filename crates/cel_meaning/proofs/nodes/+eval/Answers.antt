@@ -7,7 +7,7 @@ use Rattle.cel_tree.specs.View.{target_of, tree_view}
 use Rattle.cel_tree.specs.steps.TreeViews.{boxed_view, tree_entries_view, trees_view}
 use Rattle.cel_value.specs.Texts.{text_view}
 use Rattle.cel_types.specs.Meaning.{call_answer}
-use Rattle.cel_types.proofs.CheckSteps.{tree_call, tree_comprehension, tree_map}
+use Rattle.cel_types.proofs.TreeViews.{tree_call, tree_comprehension, tree_map}
 use Rattle.cel_meaning.specs.Origin.{call_place, first_place, placed, placed_before, placed_each, placed_entries, placed_target, settled}
 use Rattle.cel_meaning.specs.Places.{placed_view}
 use Rattle.cel_meaning.specs.steps.Plain.{around_view, behind}

@@ -18,4 +18,4 @@ returns-in-RequestHeaders-clause-ordered c =
 pub returns-in-RequestId-clause-value : goal.returns-in-RequestId-clause-value
 returns-in-RequestId-clause-value c =
     rw c.in-RequestId.is
-    (rw c.header_text-in-RequestId.ensures at c.text_value-in-RequestId.ensures.value)
+    (rw c.header-in-RequestId.ensures at c.text_value-in-RequestId.ensures.value)
