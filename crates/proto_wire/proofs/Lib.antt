@@ -7,6 +7,8 @@ pub mod ValueLemmas
 pub mod OneofLemmas
 pub mod Messages
 pub mod Exits
+pub mod Places
+pub mod PlaceExits
 pub mod Basics
 pub mod MapLemmas
 pub mod MapLaws

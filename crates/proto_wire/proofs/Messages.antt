@@ -1,15 +1,20 @@
 -- Payloads are a message whose fields are all known or have a fault, never both, and they are one
 -- message at most.
-use Rattle.std.proofs.Common.{◌≡◌, ℕ, true, false, ◌&&◌, ◌⊎◌, inl, inr, List, [], ◌∷◌, ◌++◌, refl, sym, ◌∙◌}
+use Rattle.std.proofs.Common.{◌≡◌, ℕ, true, false, ◌&&◌, ◌⊎◌, inl, inr, List, [], ◌∷◌, ◌++◌, None, Some, refl, sym, ap, ◌∙◌}
+use Rattle.std.specs.Prelude.{Result, IfErr, IsErrAnd, IsSomeAnd}
 use Rattle.std.specs.List.{list_all}
 use Rattle.std.proofs.lemmas.Bool.{and_parts}
 use Rattle.std.proofs.lemmas.List.Folds.{list_all-append}
+use Rattle.std.proofs.lemmas.Result.{err_from_is_err_and}
 use Rattle.proto_wire.specs.Fields.{Wire}
-use Rattle.proto_wire.specs.Keys.{is_known, AllKnown, SomeUnknown}
+use Rattle.proto_wire.specs.Keys.{first_unknown, is_known, AllKnown, SomeUnknown}
 use Rattle.proto_wire.specs.Merge.{Merges}
-use Rattle.proto_wire.specs.Messages.{HasUnknown, IsMessage, MessageFault, not_whole, not_known}
+use Rattle.proto_wire.specs.Messages.{HasUnknown, IsMessage, MessageFault, PartsFault, not_whole, not_known}
+use Rattle.proto_wire.specs.Places.{Path, IsAt, MessagePlace, path_of, path_at, whole_message, unknown_field}
+use Rattle.proto_wire.specs.Refusal.{MemoryOr}
+use Rattle.proto_wire.specs.declared.placed.Fault.{Fault}
 use Rattle.proto_wire.specs.declared.refusal.Refusal.{Refusal}
-use Rattle.proto_wire.specs.declared.refusal.Refusal.TheVariants.{BadWire, UnknownField}
+use Rattle.proto_wire.specs.declared.refusal.Refusal.TheVariants.{BadWire, Memory, UnknownField}
 use Rattle.proto_wire.specs.declared.key.Key.{Key}
 use Rattle.proto_wire.proofs.Unique.{fields_unique, merges_unique, merges_disjoint, merges_total}
 use Rattle.proto_wire.proofs.KeyLemmas.{known_total, known_disjoint}
@@ -79,3 +84,28 @@ module _ (keys : List Key) where
   pub message_unique : (parts : List (List ℕ)) (fs gs : List Wire) → IsMessage keys parts fs
       → IsMessage keys parts gs → fs ≡ gs
   message_unique parts fs gs a b = merges_unique parts fs gs a.0 b.0
+
+-- fields that are not whole name no field
+not_unknown : (parts : List (List ℕ)) (e : Refusal) → MemoryOr (PartsFault parts) e → e ≡ UnknownField → ⊥
+not_unknown parts e (inl memory) unknown =
+    let clash : ◌≡◌ {A = Refusal} Memory UnknownField = sym memory ∙ unknown in absurd cc
+not_unknown parts e (inr fault) unknown =
+    let clash : ◌≡◌ {A = Refusal} BadWire UnknownField = sym fault.1 ∙ unknown in absurd cc
+
+-- their fault is the message's
+pub parts_place : (keys : List Key) (parts : List (List ℕ)) {T : Type 0} (r : Result T Fault) (e : Refusal)
+    → IsErrAnd r (IsAt 0 e) → MemoryOr (PartsFault parts) e → IfErr r (MessagePlace keys parts)
+parts_place keys parts r e left fault =
+    let p = err_from_is_err_and r left in
+    rw (p.1) (whole_message (λ unknown. not_unknown parts e fault (sym p.2.0 ∙ unknown)) p.2.1)
+
+-- the place of a message's fault has no steps
+pub no_steps : (keys : List Key) (parts : List (List ℕ)) (fault : Fault) → MessagePlace keys parts fault
+    → (path_of fault.place).steps ≡ []
+no_steps keys parts fault (whole_message other here) = ap (λ (path : Path). path.steps) here
+no_steps keys parts fault (unknown_field fs merges is named) =
+    elim (first_unknown keys fs) as (λ o. IsSomeAnd o (λ n. path_of fault.place ≡ path_at n)
+    → (path_of fault.place).steps ≡ []) [
+      | None ↦ λ none. absurd none
+      | Some n ↦ λ at. ap (λ (path : Path). path.steps) at
+    ] named

@@ -1,6 +1,6 @@
 -- Which fields a message knows: Protocol Buffers encoding guide, "Message Structure". A field is
 -- known by its number and its wire type.
-use Rattle.std.specs.Prelude.{◌≡◌, ℕ, ◌==◌, ◌&&◌, Bool, false, List, IsTrue}
+use Rattle.std.specs.Prelude.{◌≡◌, ℕ, ◌==◌, ◌&&◌, Bool, false, cond, Option, None, Some, List, [], ◌∷◌, IsTrue}
 use Rattle.std.specs.List.{list_any, list_all}
 use Rattle.proto_wire.specs.Fields.{Wire, wire_type_of, tag_bits}
 use Rattle.proto_wire.specs.declared.key.Key.{Key}
@@ -30,3 +30,8 @@ AllKnown keys fs = IsTrue (list_all (is_known keys) fs)
 -- some field has none of the keys
 abbrev pub SomeUnknown : List Key → List Wire → Type 0
 SomeUnknown keys fs = list_all (is_known keys) fs ≡ false
+
+-- the number of the first field that has none of the keys
+abbrev pub first_unknown : List Key → List Wire → Option ℕ
+first_unknown keys [] = None
+first_unknown keys (f ∷ fs) = cond (is_known keys f) (first_unknown keys fs) (Some f.number)

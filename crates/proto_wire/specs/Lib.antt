@@ -7,5 +7,6 @@ pub mod Shortest
 pub mod Merge
 pub mod Refusal
 pub mod Messages
+pub mod Places
 pub mod Maps
 pub mod steps

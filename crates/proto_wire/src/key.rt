@@ -1,9 +1,8 @@
 //! Which fields a message knows.
 
 ghost use Rattle.std.specs.Prelude.{◌≡◌, map};
-ghost use Rattle.std.specs.List.{list_all};
 ghost use Rattle.proto_wire.specs.Fields.{field_view};
-ghost use Rattle.proto_wire.specs.Keys.{has_key, is_known};
+ghost use Rattle.proto_wire.specs.Keys.{first_unknown, has_key, is_known};
 
 use crate::field::{Field, WireType};
 
@@ -22,11 +21,16 @@ macro_rules! keys {
     };
 }
 
-/// Whether each field has one of the keys.
-pub(crate) fn all_known(fields: &[Field<'_>], keys: &[Key]) -> bool
-    ensures { result ≡ list_all (is_known keys.now) (map field_view fields.now) }
+/// The number of the first field that has none of the keys. It takes no memory.
+pub fn first_unknown(fields: &[Field<'_>], keys: &[Key]) -> Option<u32>
+    ensures { result ≡ first_unknown keys.now (map field_view fields.now) }
 {
-    fields.iter().all(|field| is_known(field, keys))
+    for field in fields {
+        if !is_known(field, keys) {
+            return Some(field.number);
+        }
+    }
+    None
 }
 
 /// Whether the field has one of the keys.

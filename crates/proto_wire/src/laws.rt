@@ -8,6 +8,7 @@ ghost use Rattle.proto_wire.specs.Fields.{Wire, Fields, Broken};
 ghost use Rattle.proto_wire.specs.Maps.{KeyKind, Entry, AreEntries, SomeEntryFault};
 ghost use Rattle.proto_wire.specs.Merge.{Merges, Breaks};
 ghost use Rattle.proto_wire.specs.Messages.{IsMessage, MessageFault};
+ghost use Rattle.proto_wire.specs.Places.{Path, BeginsWith};
 ghost use Rattle.proto_wire.specs.Shortest.{Shortest};
 
 use crate::fault::WireError;
@@ -96,6 +97,12 @@ pub fn entries_disjoint()
 pub fn entries_unique()
     ensures { (kind : KeyKind) (parts : List (List ℕ)) (es ds : List (Entry kind))
         → AreEntries kind parts es → AreEntries kind parts ds → es ≡ ds }
+{}
+
+/// A path goes on from one message further out in one way at most.
+pub fn outer_path_unique()
+    ensures { (number position : ℕ) (inner a b : Path)
+        → BeginsWith number position inner a → BeginsWith number position inner b → a ≡ b }
 {}
 
 /// What is written reads back.

@@ -8,6 +8,8 @@ pub mod laws;
 mod maps;
 mod message;
 mod oneof;
+mod place;
+mod placed;
 mod reader;
 mod refusal;
 mod spelling;
@@ -17,10 +19,14 @@ mod writer;
 
 pub use fault::WireError;
 pub use field::{Field, Payload, WireType};
-pub use key::Key;
+pub use key::{Key, first_unknown};
 pub use maps::{KeyOrder, MapEntry, MapKey, read_entries};
-pub use message::{MessageFields, read_fields, read_message, read_parts, require_level};
+pub use message::{
+    MessageFields, read_fields, read_message, read_message_at, read_parts, require_level,
+};
 pub use oneof::{MemberRun, last_member, last_number, member_run};
+pub use place::{MOST_STEPS, Place, Step};
+pub use placed::{Fault, at_field, inside_field};
 pub use reader::Reader;
 pub use refusal::Refusal;
 pub use values::{

@@ -1,15 +1,17 @@
 //! All fields of a message, and messages whose fields must all be known.
 
-ghost use Rattle.std.specs.Prelude.{◌≡◌, ◌<◌, ◌++◌, List, [], ◌∷◌, Err, map, IfOk, IfErr, OnOk, MatchResult};
+ghost use Rattle.std.specs.Prelude.{◌≡◌, ◌<◌, ◌++◌, List, [], ◌∷◌, Err, map, IfOk, IfErr, IsErrAnd, OnOk, MatchResult};
 ghost use Rattle.smallvec.specs.SmallVec.{HasRoomFor};
 ghost use Rattle.proto_wire.specs.Fields.{Wire, Fields, IsBroken, field_view};
 ghost use Rattle.proto_wire.specs.Keys.{AllKnown, SomeUnknown};
 ghost use Rattle.proto_wire.specs.Merge.{Merges, FirstBreaks, parts_view};
 ghost use Rattle.proto_wire.specs.Messages.{PartsFault, IsMessage, MessageFault};
+ghost use Rattle.proto_wire.specs.Places.{FaultOr, MessagePlace, NamesUnknown};
 ghost use Rattle.proto_wire.specs.Refusal.{MemoryOr};
 
 use crate::field::Field;
-use crate::key::{Key, all_known};
+use crate::key::{Key, first_unknown};
+use crate::placed::Fault;
 use crate::reader::Reader;
 use crate::refusal::Refusal;
 use smallvec::SmallVec;
@@ -62,21 +64,42 @@ pub fn read_message<'a>(
     ensures reads { (fs : List Wire) → IsMessage keys.now (parts_view parts.now) fs
         → MatchResult result (λ v. map field_view v.items ≡ fs) (λ e. e ≡ Refusal.Memory) }
 {
+    Ok(read_message_at(alloc, parts, keys)?)
+}
+
+/// The fields of a message, as `read_message` reads them. The place of `UnknownField` names the first field that
+/// has none of the keys; that of any other refusal is the message.
+pub fn read_message_at<'a>(
+    alloc: Global,
+    parts: &[&'a [u8]],
+    keys: &[Key],
+) -> Result<MessageFields<'a>, Fault>
+    ensures found { IfOk result (λ v. IsMessage keys.now (parts_view parts.now)
+        (map field_view v.items)) }
+    ensures fault { IfErr result (FaultOr (MessageFault keys.now (parts_view parts.now))) }
+    ensures place { IfErr result (MessagePlace keys.now (parts_view parts.now)) }
+    ensures at_once { FirstBreaks (parts_view parts.now)
+        → IsErrAnd result (λ f. f.refusal ≡ Refusal.BadWire) }
+    ensures reads { (fs : List Wire) → IsMessage keys.now (parts_view parts.now) fs
+        → MatchResult result (λ v. map field_view v.items ≡ fs) (λ f. f.refusal ≡ Refusal.Memory) }
+{
     let fields = read_parts(alloc, parts)?;
     require_known(&fields, keys)?;
     Ok(fields)
 }
 
-/// Refuses fields if some has none of the keys: `UnknownField`. It takes no memory.
-pub(crate) fn require_known(fields: &[Field<'_>], keys: &[Key]) -> Result<(), Refusal>
+/// Refuses fields if some has none of the keys: `UnknownField`, which names the first such field. It takes no
+/// memory.
+fn require_known(fields: &[Field<'_>], keys: &[Key]) -> Result<(), Fault>
     ensures found { OnOk result (AllKnown keys.now (map field_view fields.now)) }
-    ensures fault { IfErr result (λ e.
-        SomeUnknown keys.now (map field_view fields.now) × (e ≡ Refusal.UnknownField)) }
+    ensures fault { IfErr result (λ f.
+        SomeUnknown keys.now (map field_view fields.now) × (f.refusal ≡ Refusal.UnknownField)) }
+    ensures place { IfErr result (NamesUnknown keys.now (map field_view fields.now)) }
 {
-    if !all_known(fields, keys) {
-        return Err(Refusal::UnknownField);
+    match first_unknown(fields, keys) {
+        None => Ok(()),
+        Some(number) => Err(Fault::at(Refusal::UnknownField, number)),
     }
-    Ok(())
 }
 
 /// Refuses a nested message if no level is left: `TooLarge`. It takes no memory.

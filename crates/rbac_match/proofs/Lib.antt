@@ -23,5 +23,6 @@ mod CauseLists
 mod CauseLaws
 pub mod Adding
 pub mod Levels
+pub mod Places
 mod NeedLemmas
 pub mod StandardFacts

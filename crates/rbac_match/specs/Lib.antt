@@ -11,6 +11,7 @@ pub mod Matcher
 pub mod Leaves
 pub mod Formula
 pub mod Rules
+pub mod Places
 pub mod Needs
 pub mod Tokens
 pub mod View

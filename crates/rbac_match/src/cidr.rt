@@ -6,7 +6,7 @@ ghost use Rattle.attributes.specs.Conn.{conn_view};
 ghost use Rattle.proto_wire.specs.Fields.{field_view};
 ghost use Rattle.proto_wire.specs.Merge.{parts_view};
 ghost use Rattle.proto_wire.specs.Messages.{MessageFault};
-ghost use Rattle.proto_wire.specs.Refusal.{MemoryOr};
+ghost use Rattle.proto_wire.specs.Places.{FaultOr};
 ghost use Rattle.proto_wire.specs.declared.refusal.Refusal.TheVariants.{OutOfRange};
 ghost use Rattle.proto_wire.specs.Values.{bytes_at};
 ghost use Rattle.rbac_match.specs.Cidr.{cidr_field, IsCidr, IsUint32, AddressFault, CidrFault, uint32_keys, source_ip};
@@ -14,7 +14,10 @@ ghost use Rattle.rbac_match.specs.Matcher.{matcher_holds};
 ghost use Rattle.rbac_match.specs.declared.matcher.Matcher.TheVariants.{Address};
 
 use attributes::{Cidr, Conn, Ip, Request, parse_ip};
-use proto_wire::{Field, Key, Refusal, keys, payloads_of, read_message, text_at, uint32_at};
+use proto_wire::{
+    Fault, Field, Key, Refusal, at_field, inside_field, keys, payloads_of, read_message_at,
+    text_at, uint32_at,
+};
 use std::alloc::Global;
 
 /// The address of a request that a rule tests.
@@ -47,26 +50,26 @@ pub(crate) const PREFIX_LEN: u32 = 2;
 /// The field of a UInt32Value's value.
 const VALUE: u32 = 1;
 
-pub(crate) static CIDR_RANGE: [Key; 2] = keys![Len ADDRESS_PREFIX, Len PREFIX_LEN];
+static CIDR_RANGE: [Key; 2] = keys![Len ADDRESS_PREFIX, Len PREFIX_LEN];
 
-pub(crate) static UINT32_VALUE: [Key; 1] = keys![Varint VALUE];
+static UINT32_VALUE: [Key; 1] = keys![Varint VALUE];
 
 /// Reads a range of addresses (`envoy.config.core.v3.CidrRange`) from its parts. `BadText`: the address is
 /// not UTF-8. `OutOfRange`: the text spells no address, or the address has fewer bits than the prefix. An
 /// absent `prefix_len` is 0.
-pub(crate) fn read_cidr(alloc: Global, parts: &[&[u8]]) -> Result<Cidr, Refusal>
+pub(crate) fn read_cidr(alloc: Global, parts: &[&[u8]]) -> Result<Cidr, Fault>
     ensures found { IfOk result (λ range. IsCidr (parts_view parts.now) range) }
-    ensures fault { IfErr result (MemoryOr (CidrFault (parts_view parts.now))) }
+    ensures fault { IfErr result (FaultOr (CidrFault (parts_view parts.now))) }
 {
-    let fields = read_message(alloc, parts, &CIDR_RANGE)?;
-    let address = address_prefix(&fields)?;
+    let fields = read_message_at(alloc, parts, &CIDR_RANGE)?;
+    let address = at_field(address_prefix(&fields), ADDRESS_PREFIX)?;
     let payloads = payloads_of(alloc, &fields, PREFIX_LEN)?;
-    let prefix_len = read_uint32(alloc, &payloads)?;
-    range_of(address, prefix_len)
+    let prefix_len = inside_field(read_uint32(alloc, &payloads), PREFIX_LEN, 0)?;
+    at_field(range_of(address, prefix_len), PREFIX_LEN)
 }
 
 /// The address in the fields of a range.
-pub(crate) fn address_prefix(fields: &[Field<'_>]) -> Result<Ip, Refusal>
+fn address_prefix(fields: &[Field<'_>]) -> Result<Ip, Refusal>
     ensures found { let text = bytes_at cidr_field.address_prefix (map field_view fields.now) in
         IfOk result (λ ip. IsUtf8 text × IsIpText text ip) }
     ensures fault { let text = bytes_at cidr_field.address_prefix (map field_view fields.now) in
@@ -77,11 +80,11 @@ pub(crate) fn address_prefix(fields: &[Field<'_>]) -> Result<Ip, Refusal>
 }
 
 /// Reads a `google.protobuf.UInt32Value`, a message that holds one uint32, from its parts.
-fn read_uint32(alloc: Global, parts: &[&[u8]]) -> Result<u32, Refusal>
+fn read_uint32(alloc: Global, parts: &[&[u8]]) -> Result<u32, Fault>
     ensures found { IfOk result (λ n. IsUint32 (parts_view parts.now) n) }
-    ensures fault { IfErr result (MemoryOr (MessageFault uint32_keys (parts_view parts.now))) }
+    ensures fault { IfErr result (FaultOr (MessageFault uint32_keys (parts_view parts.now))) }
 {
-    let fields = read_message(alloc, parts, &UINT32_VALUE)?;
+    let fields = read_message_at(alloc, parts, &UINT32_VALUE)?;
     Ok(uint32_at(&fields, VALUE))
 }
 

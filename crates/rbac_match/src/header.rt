@@ -6,7 +6,7 @@ ghost use Rattle.std.specs.Str.{IsUtf8};
 ghost use Rattle.proto_wire.specs.Fields.{field_view};
 ghost use Rattle.proto_wire.specs.Merge.{parts_view};
 ghost use Rattle.proto_wire.specs.Oneof.{member_run, last_number, member_in};
-ghost use Rattle.proto_wire.specs.Refusal.{MemoryOr};
+ghost use Rattle.proto_wire.specs.Places.{FaultOr};
 ghost use Rattle.proto_wire.specs.Values.{bytes_at, Utf8Fault};
 ghost use Rattle.proto_wire.specs.declared.refusal.Refusal.TheVariants.{Missing, Unsupported};
 ghost use Rattle.rbac_match.specs.Header.{header_field, specifiers, SaysMember, SaysSpecifier, IsHeader, HeaderMemberFault, HeaderFault};
@@ -14,8 +14,8 @@ ghost use Rattle.rbac_match.specs.Header.{header_field, specifiers, SaysMember, 
 use crate::int64_range::{Int64Range, read_int64_range};
 use crate::text::{Pattern, TextMatcher, read_text_matcher, sought_text};
 use proto_wire::{
-    Field, Key, Refusal, bool_at, bytes_at, keys, last_number, member_run, payloads_of,
-    read_message, text_of,
+    Fault, Field, Key, Refusal, at_field, bool_at, bytes_at, inside_field, keys, last_number,
+    member_run, payloads_of, read_message_at, text_of,
 };
 use std::alloc::Global;
 use std::marker::Model;
@@ -89,12 +89,12 @@ pub(crate) const STRING_MATCH: u32 = 13;
 
 const TREAT_MISSING_HEADER_AS_EMPTY: u32 = 14;
 
-pub(crate) static SPECIFIERS: [Key; 8] = keys![
+static SPECIFIERS: [Key; 8] = keys![
     Len EXACT_MATCH, Len RANGE_MATCH, Varint PRESENT_MATCH, Len PREFIX_MATCH, Len SUFFIX_MATCH,
     Len SAFE_REGEX_MATCH, Len CONTAINS_MATCH, Len STRING_MATCH
 ];
 
-pub(crate) static HEADER_MATCHER: [Key; 11] = keys![
+static HEADER_MATCHER: [Key; 11] = keys![
     Len NAME, Varint INVERT_MATCH, Varint TREAT_MISSING_HEADER_AS_EMPTY, Len EXACT_MATCH,
     Len RANGE_MATCH, Varint PRESENT_MATCH, Len PREFIX_MATCH, Len SUFFIX_MATCH,
     Len SAFE_REGEX_MATCH, Len CONTAINS_MATCH, Len STRING_MATCH
@@ -106,13 +106,13 @@ pub(crate) static HEADER_MATCHER: [Key; 11] = keys![
 pub(crate) fn read_header_matcher<'a>(
     alloc: Global,
     parts: &[&'a [u8]],
-) -> Result<HeaderMatcher<'a>, Refusal>
+) -> Result<HeaderMatcher<'a>, Fault>
     ensures found { IfOk result (λ h. IsHeader (parts_view parts.now) h) }
-    ensures fault { IfErr result (MemoryOr (HeaderFault (parts_view parts.now))) }
+    ensures fault { IfErr result (FaultOr (HeaderFault (parts_view parts.now))) }
 {
-    let fields = read_message(alloc, parts, &HEADER_MATCHER)?;
+    let fields = read_message_at(alloc, parts, &HEADER_MATCHER)?;
     let specifier = read_specifier(alloc, &fields)?;
-    let name = header_name(&fields)?;
+    let name = at_field(header_name(&fields), NAME)?;
     let invert_match = bool_at(&fields, INVERT_MATCH);
     let treat_missing_header_as_empty = bool_at(&fields, TREAT_MISSING_HEADER_AS_EMPTY);
     Ok(HeaderMatcher {
@@ -124,7 +124,7 @@ pub(crate) fn read_header_matcher<'a>(
 }
 
 /// The name as the message has it; it is not empty.
-pub(crate) fn header_name<'a>(fields: &[Field<'a>]) -> Result<&'a str, Refusal>
+fn header_name<'a>(fields: &[Field<'a>]) -> Result<&'a str, Refusal>
     ensures found { let bytes = bytes_at header_field.name (map field_view fields.now) in
         IfOk result (λ name. (name.now ≡ bytes) × IsUtf8 bytes × (bytes ≢ [])) }
     ensures fault { let bytes = bytes_at header_field.name (map field_view fields.now) in
@@ -138,21 +138,18 @@ pub(crate) fn header_name<'a>(fields: &[Field<'a>]) -> Result<&'a str, Refusal>
 }
 
 /// What the last member requires; without a member, the header must be present.
-pub(crate) fn read_specifier<'a>(
-    alloc: Global,
-    fields: &[Field<'a>],
-) -> Result<Specifier<'a>, Refusal>
+fn read_specifier<'a>(alloc: Global, fields: &[Field<'a>]) -> Result<Specifier<'a>, Fault>
     ensures found { IfOk result (λ s. SaysSpecifier (map field_view fields.now) s) }
-    ensures fault { let fs = map field_view fields.now in IfErr result (MemoryOr (λ e.
+    ensures fault { let fs = map field_view fields.now in IfErr result (FaultOr (λ e.
         (n : ℕ) × (last_number (keys_of specifiers) fs ≡ Some n)
         × HeaderMemberFault (member_in specifiers n) n (member_run (keys_of specifiers) fs) e)) }
 {
     let Some(number) = last_number(fields, &SPECIFIERS) else {
         return Ok(Specifier::Present(true));
     };
-    let member = header_member(number)?;
+    let member = at_field(header_member(number), number)?;
     let run = member_run(alloc, fields, &SPECIFIERS)?;
-    read_header_member(alloc, member, number, &run)
+    inside_field(read_header_member(alloc, member, number, &run), number, 0)
 }
 
 /// The member of this number; a regular expression is not supported.
@@ -178,9 +175,9 @@ fn read_header_member<'a>(
     member: HeaderMember,
     number: u32,
     run: &[Field<'a>],
-) -> Result<Specifier<'a>, Refusal>
+) -> Result<Specifier<'a>, Fault>
     ensures found { IfOk result (λ s. SaysMember member number (map field_view run.now) s) }
-    ensures fault { IfErr result (MemoryOr
+    ensures fault { IfErr result (FaultOr
         (HeaderMemberFault (Some member) number (map field_view run.now))) }
 {
     match member {

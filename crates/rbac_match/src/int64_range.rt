@@ -3,12 +3,12 @@
 ghost use Rattle.std.specs.Prelude.{◌≡◌, IfOk, IfErr};
 ghost use Rattle.proto_wire.specs.Merge.{parts_view};
 ghost use Rattle.proto_wire.specs.Messages.{MessageFault};
-ghost use Rattle.proto_wire.specs.Refusal.{MemoryOr};
+ghost use Rattle.proto_wire.specs.Places.{FaultOr};
 ghost use Rattle.rbac_match.specs.Int64Range.{IsRange, int64_in, is_within, range_holds};
 ghost use Rattle.rbac_match.specs.Message.{range_keys};
 
 use crate::keys::{END, RANGE, START};
-use proto_wire::{Refusal, int64_at, read_message};
+use proto_wire::{Fault, int64_at, read_message_at};
 use std::alloc::Global;
 
 /// The numbers from `start` on that are below `end`; none if `start` is not below `end`.
@@ -46,11 +46,11 @@ fn parse_int64(text: &str) -> Option<i64>
 }
 
 /// Reads an Int64Range (`envoy.type.v3.Int64Range`) from its parts.
-pub(crate) fn read_int64_range(alloc: Global, parts: &[&[u8]]) -> Result<Int64Range, Refusal>
+pub(crate) fn read_int64_range(alloc: Global, parts: &[&[u8]]) -> Result<Int64Range, Fault>
     ensures found { IfOk result (λ range. IsRange (parts_view parts.now) range) }
-    ensures fault { IfErr result (MemoryOr (MessageFault range_keys (parts_view parts.now))) }
+    ensures fault { IfErr result (FaultOr (MessageFault range_keys (parts_view parts.now))) }
 {
-    let fields = read_message(alloc, parts, &RANGE)?;
+    let fields = read_message_at(alloc, parts, &RANGE)?;
     Ok(Int64Range {
         start: int64_at(&fields, START),
         end: int64_at(&fields, END),

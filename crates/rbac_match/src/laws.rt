@@ -1,7 +1,7 @@
-//! Laws of the definitions: what each test means, and that payloads are exactly one HeaderMatcher or have a
-//! fault.
+//! Laws of the definitions: what each test means, that payloads are exactly one HeaderMatcher or have a fault, and
+//! what a place of a fault means.
 
-ghost use Rattle.std.specs.Prelude.{◌≡◌, ◌≢◌, ◌↔◌, ◌⊎◌, ◌<◌, ◌≤◌, ◌≤ℤ◌, ◌<ℤ◌, ◌+◌, ◌==◌, ◌||◌, ℕ, ℤ, pos, neg_ℤ, FitsSigned, Bool, true, false, not, List, [], ◌∷◌, ◌++◌, Option, Some, None, IsTrue, codes};
+ghost use Rattle.std.specs.Prelude.{◌≡◌, ◌≢◌, ◌↔◌, ◌⊎◌, ◌<◌, ◌≤◌, ◌≤ℤ◌, ◌<ℤ◌, ◌+◌, ◌==◌, ◌||◌, ℕ, ℤ, pos, neg_ℤ, FitsSigned, Bool, true, false, not, List, [], ◌∷◌, ◌++◌, Option, Some, None, IsTrue, codes, take};
 ghost use Rattle.std.specs.Char.{to_ascii_lowercase};
 ghost use Rattle.std.specs.Int.{w64};
 ghost use Rattle.std.specs.List.{AllByRecursion, list_any};
@@ -10,6 +10,7 @@ ghost use Rattle.std.specs.Str.Parse.{IsNumeral, signed_digits_value, without_le
 ghost use Rattle.attributes.specs.Address.{Range, share_prefix};
 ghost use Rattle.attributes.specs.Request.{RequestValue, header_of};
 ghost use Rattle.attributes.specs.declared.address.Ip.{Ip};
+ghost use Rattle.proto_wire.specs.declared.place.Step.{Step};
 ghost use Rattle.proto_wire.specs.declared.refusal.Refusal.{Refusal};
 ghost use Rattle.rbac_match.specs.Causes.{IsCauseOf, IsSame, causes};
 ghost use Rattle.rbac_match.specs.Cidr.{source_ip};
@@ -17,6 +18,7 @@ ghost use Rattle.rbac_match.specs.Formula.{Formula, Formulas, holds};
 ghost use Rattle.rbac_match.specs.Header.{HeaderTest, IsHeader, HeaderFault, specifier_holds};
 ghost use Rattle.rbac_match.specs.Int64Range.{int64_in, is_within, range_holds};
 ghost use Rattle.rbac_match.specs.Matcher.{matcher_holds};
+ghost use Rattle.rbac_match.specs.Places.{Part, PartFault, FaultAt};
 ghost use Rattle.std.specs.declared.ops.Range.{Range as PortSpan};
 ghost use Rattle.rbac_match.specs.Text.{pattern_holds, TextTest, text_holds};
 ghost use Rattle.rbac_match.specs.Tokens.{decode, tokens};
@@ -25,6 +27,7 @@ ghost use Rattle.rbac_match.specs.declared.header.Specifier.{Specifier};
 ghost use Rattle.rbac_match.specs.declared.header.Specifier.TheVariants.{Present, Range as Within};
 ghost use Rattle.rbac_match.specs.declared.int64_range.Int64Range.{Int64Range};
 ghost use Rattle.rbac_match.specs.declared.matcher.Matcher.TheVariants.{Header, Address, Port, PortRange, ServerName, UrlPath, Authenticated};
+ghost use Rattle.rbac_match.specs.declared.rule.Side.{Side};
 ghost use Rattle.rbac_match.specs.declared.text.Pattern.{Pattern};
 ghost use Rattle.rbac_match.specs.declared.text.Pattern.TheVariants.{Exact, Prefix, Suffix, Contains};
 
@@ -246,4 +249,16 @@ pub fn causes_are_leaves()
 pub fn causes_suffice()
     ensures { (request other : RequestValue) (f : Formula)
         → AllByRecursion (IsSame request other) (causes request f) → holds other f ≡ holds request f }
+{}
+
+/// The first steps to a part with a fault lead to a part that has the fault as well. So a place may be cut short.
+pub fn shorter_place()
+    ensures { (side : Side) (k : ℕ) (steps : List Step) (p : Part) (e : Refusal)
+        → FaultAt side steps p e → FaultAt side (take k steps) p e }
+{}
+
+/// A part has the fault of each part to which steps lead from it.
+pub fn outer_part_has_the_fault()
+    ensures { (side : Side) (steps : List Step) (p : Part) (e : Refusal)
+        → FaultAt side steps p e → PartFault side p e }
 {}

@@ -6,11 +6,12 @@ ghost use Rattle.proto_wire.specs.Keys.{AllKnown};
 ghost use Rattle.proto_wire.specs.declared.refusal.Refusal.TheVariants.{Missing, Unsupported};
 ghost use Rattle.rbac_match.specs.Message.{members, rule_keys};
 ghost use Rattle.proto_wire.specs.Oneof.{last_number, member_in};
+ghost use Rattle.proto_wire.specs.Places.{IsAt};
 
 use crate::cidr::AddressSource;
 use crate::keys::{AND, ANY, NOT, OR, permission, principal};
 use crate::rule::Side;
-use proto_wire::{Field, Refusal};
+use proto_wire::{Fault, Field, Refusal};
 
 /// A supported member of the oneof.
 #[derive(Clone, Copy, PartialEq, Eq, Debug)]
@@ -89,21 +90,21 @@ fn member_at(side: Side, number: u32) -> Option<Member>
 
 /// The last member of a rule's fields, which are all members. `Missing`: there is none. `Unsupported`: the
 /// last member is not supported.
-pub(crate) fn last_member(side: Side, fields: &[Field<'_>]) -> Result<LastMember, Refusal>
+pub(crate) fn last_member(side: Side, fields: &[Field<'_>]) -> Result<LastMember, Fault>
     requires { AllKnown (rule_keys side) (map field_view fields.now) }
     ensures found { IfOk result (λ last.
         (last_number (rule_keys side) (map field_view fields.now) ≡ Some last.number)
         × (member_in (members side) last.number ≡ Some last.member)) }
     ensures fault { IfErr result (λ e. MatchOption
         (last_number (rule_keys side) (map field_view fields.now))
-        (e ≡ Missing) (λ n. (member_in (members side) n ≡ None) × (e ≡ Unsupported))) }
+        (IsAt 0 Missing e) (λ n. (member_in (members side) n ≡ None) × IsAt n Unsupported e)) }
 {
     let Some(last) = fields.last() else {
-        return Err(Refusal::Missing);
+        return Err(Fault::at(Refusal::Missing, 0));
     };
     let number = last.number;
     match member_at(side, number) {
         Some(member) => Ok(LastMember { member, number }),
-        None => Err(Refusal::Unsupported),
+        None => Err(Fault::at(Refusal::Unsupported, number)),
     }
 }

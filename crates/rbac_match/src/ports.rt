@@ -3,7 +3,7 @@
 ghost use Rattle.std.specs.Prelude.{◌≡◌, IfOk, IfErr, map};
 ghost use Rattle.proto_wire.specs.Fields.{field_view};
 ghost use Rattle.proto_wire.specs.Merge.{parts_view};
-ghost use Rattle.proto_wire.specs.Refusal.{MemoryOr};
+ghost use Rattle.proto_wire.specs.Places.{FaultOr};
 ghost use Rattle.proto_wire.specs.declared.refusal.Refusal.TheVariants.{OutOfRange};
 ghost use Rattle.rbac_match.specs.Ports.{AreBounds, IsDestinationPort, IsPortRange, PortFault, PortRangeFault};
 ghost use Rattle.rbac_match.specs.Matcher.{matcher_holds};
@@ -12,7 +12,7 @@ ghost use Rattle.rbac_match.specs.steps.Ports.{AreNoBounds};
 
 use crate::keys::{END, RANGE, START};
 use attributes::Request;
-use proto_wire::{Field, Refusal, int32_at, read_message, uint32_at};
+use proto_wire::{Fault, Field, Refusal, int32_at, read_message_at, uint32_at};
 use std::alloc::Global;
 use std::marker::Model;
 
@@ -54,12 +54,12 @@ pub(crate) fn read_port(run: &[Field<'_>], number: u32) -> Result<u16, Refusal>
 
 /// Reads a range of ports (`envoy.type.v3.Int32Range`) from its parts. `OutOfRange`: it has no ports, or has
 /// numbers that are no ports.
-pub(crate) fn read_port_range(alloc: Global, parts: &[&[u8]]) -> Result<PortRange, Refusal>
+pub(crate) fn read_port_range(alloc: Global, parts: &[&[u8]]) -> Result<PortRange, Fault>
     ensures found { IfOk result (λ range. IsPortRange (parts_view parts.now) range) }
-    ensures fault { IfErr result (MemoryOr (PortRangeFault (parts_view parts.now))) }
+    ensures fault { IfErr result (FaultOr (PortRangeFault (parts_view parts.now))) }
 {
-    let fields = read_message(alloc, parts, &RANGE)?;
-    port_range(&fields)
+    let fields = read_message_at(alloc, parts, &RANGE)?;
+    Ok(port_range(&fields)?)
 }
 
 /// The ports between the bounds in the fields.

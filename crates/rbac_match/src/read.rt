@@ -1,11 +1,12 @@
 //! The reading of rules, down to a depth.
 
-ghost use Rattle.std.specs.Prelude.{◌++◌, List, Some, IfOk, IfErr, OnOk, map};
+ghost use Rattle.std.specs.Prelude.{◌++◌, List, IfOk, IfErr, OnOk, map};
 ghost use Rattle.proto_wire.specs.Fields.{field_view};
 ghost use Rattle.proto_wire.specs.Merge.{parts_view};
 ghost use Rattle.proto_wire.specs.Refusal.{MemoryOr};
 ghost use Rattle.proto_wire.specs.Values.{payloads};
-ghost use Rattle.rbac_match.specs.Rules.{IsRule, AreRules, IsSet, MemberSays, RuleFault, SomeRuleFault, SetFault, MemberFault};
+ghost use Rattle.rbac_match.specs.Places.{EachOr, PlacedOr, part_of, rule, set};
+ghost use Rattle.rbac_match.specs.Rules.{IsRule, AreRules, IsSet, MemberSays, RuleFault, SomeRuleFault};
 ghost use Rattle.rbac_match.specs.Tokens.{AddsRule, AddsRules, GoesOn, Token};
 ghost use Rattle.rbac_match.specs.View.{rules_view};
 
@@ -16,7 +17,8 @@ use crate::list::{Joint, RuleList, Rules};
 use crate::member::{LastMember, Member, last_member};
 use crate::rule::Side;
 use proto_wire::{
-    Field, Refusal, len_of, payloads_of, read_message, require_level, require_payload,
+    Fault, Field, Refusal, inside_field, len_of, payloads_of, read_message_at, require_level,
+    require_payload,
 };
 
 /// The most levels of a permission or a principal; a rule that is in no other is level 1.
@@ -26,7 +28,6 @@ pub const RULE_DEPTH: u32 = 32;
 /// before it reads anything of the rule. `TooLarge`: the rule has more levels. `BadWire`, `BadText`,
 /// `UnknownField`, `Missing`, `OutOfRange` or `Unsupported`: its message has this fault. `Memory`: it is out
 /// of memory. What a refused rule leaves in the list is of no use.
-#[cycle(rule)]
 pub fn read_rule(
     list: &mut RuleList,
     side: Side,
@@ -36,11 +37,30 @@ pub fn read_rule(
     ensures found { OnOk result (AddsRule (IsRule side depth (parts_view parts.now)) list.old list.new) }
     ensures fault { IfErr result (MemoryOr (RuleFault side depth (parts_view parts.now))) }
 {
+    read_rule_at(list, side, parts, depth)?;
+    Ok(())
+}
+
+/// Reads a rule as `read_rule` does. The place of a fault is the part of the rule that has it.
+#[cycle(rule)]
+pub fn read_rule_at(
+    list: &mut RuleList,
+    side: Side,
+    parts: &[&[u8]],
+    depth: u32,
+) -> Result<(), Fault>
+    ensures found { OnOk result (AddsRule (IsRule side depth (parts_view parts.now)) list.old list.new) }
+    ensures fault { IfErr result (PlacedOr side (rule depth (parts_view parts.now))) }
+{
     require_level(depth)?;
-    let fields = read_message(list.alloc(), parts, rule_keys(side))?;
+    let fields = read_message_at(list.alloc(), parts, rule_keys(side))?;
     let last = last_member(side, &fields)?;
     let run = trailing_run(&fields);
-    read_member(list, side, last, run, depth - 1)
+    inside_field(
+        read_member(list, side, last, run, depth - 1),
+        last.number,
+        0,
+    )
 }
 
 /// Reads a rule from the run of its last member, and appends it; the rules in it may have `depth` levels.
@@ -51,13 +71,12 @@ fn read_member(
     last: LastMember,
     run: &[Field<'_>],
     depth: u32,
-) -> Result<(), Refusal>
+) -> Result<(), Fault>
     ensures found { OnOk result (AddsRule
         (MemberSays (IsRule side depth) last.member last.number (map field_view run.now))
         list.old list.new) }
-    ensures fault { IfErr result (MemoryOr
-        (MemberFault (RuleFault side depth) (Some last.member) last.number
-        (map field_view run.now))) }
+    ensures fault { IfErr result (PlacedOr side
+        (part_of depth last.member last.number (map field_view run.now))) }
 {
     let place = list.len();
     match last.member {
@@ -80,7 +99,7 @@ fn read_member(
         Member::Not => {
             let parts = payloads_of(list.alloc(), run, last.number)?;
             list.add_any()?;
-            read_rule(list, side, &parts, depth)?;
+            read_rule_at(list, side, &parts, depth)?;
             Ok(list.join(place, Joint::Not)?)
         }
         Member::Leaf(kind) => {
@@ -92,13 +111,12 @@ fn read_member(
 
 /// Reads the rules of a set from the set's parts, and appends them.
 #[cycle(rule)]
-fn read_set(list: &mut RuleList, side: Side, parts: &[&[u8]], depth: u32) -> Result<(), Refusal>
+fn read_set(list: &mut RuleList, side: Side, parts: &[&[u8]], depth: u32) -> Result<(), Fault>
     ensures found { OnOk result (AddsRules (IsSet (IsRule side depth) (parts_view parts.now))
         list.old list.new) }
-    ensures fault { IfErr result (MemoryOr (SetFault (RuleFault side depth)
-        (parts_view parts.now))) }
+    ensures fault { IfErr result (PlacedOr side (set depth (parts_view parts.now))) }
 {
-    let fields = read_message(list.alloc(), parts, &SET)?;
+    let fields = read_message_at(list.alloc(), parts, &SET)?;
     require_payload(&fields, RULES)?;
     read_each(list, side, &fields, RULES, depth)
 }
@@ -111,15 +129,14 @@ fn read_each(
     fields: &[Field<'_>],
     number: u32,
     depth: u32,
-) -> Result<(), Refusal>
+) -> Result<(), Fault>
     ensures found { OnOk result (AddsRules (AreRules (IsRule side depth)
         (payloads number (map field_view fields.now))) list.old list.new) }
-    ensures fault { IfErr result (MemoryOr
-        (SomeRuleFault side depth (payloads number (map field_view fields.now)))) }
+    ensures fault { IfErr result (EachOr side depth number (map field_view fields.now)) }
 {
-    for field in fields {
+    for (index, field) in fields.iter().enumerate() {
         if let Some(payload) = len_of(field, number) {
-            read_rule(list, side, &[payload], depth)?;
+            inside_field(read_rule_at(list, side, &[payload], depth), number, index)?;
         }
     }
     Ok(())
@@ -141,6 +158,23 @@ pub fn read_rules(
     ensures kept { OnOk result (GoesOn list.old list.new) }
     ensures fault { IfErr result (MemoryOr
         (SomeRuleFault side depth (payloads number (map field_view fields.now)))) }
+{
+    Ok(read_rules_at(list, side, fields, number, depth)?)
+}
+
+/// Reads rules as `read_rules` does. The place of a fault begins with the rule's field, and is the part of the
+/// rule that has the fault.
+pub fn read_rules_at(
+    list: &mut RuleList,
+    side: Side,
+    fields: &[Field<'_>],
+    number: u32,
+    depth: u32,
+) -> Result<Rules, Fault>
+    ensures found { IfOk result (λ rules. (more : List Token) → AreRules (IsRule side depth)
+        (payloads number (map field_view fields.now)) (rules_view (list.new ++ more) rules)) }
+    ensures kept { OnOk result (GoesOn list.old list.new) }
+    ensures fault { IfErr result (EachOr side depth number (map field_view fields.now)) }
 {
     let place = list.len();
     read_each(list, side, fields, number, depth)?;

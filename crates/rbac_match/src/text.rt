@@ -7,7 +7,7 @@ ghost use Rattle.std.specs.Map.{keys_of};
 ghost use Rattle.std.specs.Str.{str_to_ascii_lowercase};
 ghost use Rattle.proto_wire.specs.Fields.{field_view};
 ghost use Rattle.proto_wire.specs.Merge.{parts_view};
-ghost use Rattle.proto_wire.specs.Refusal.{MemoryOr};
+ghost use Rattle.proto_wire.specs.Places.{FaultOr};
 ghost use Rattle.proto_wire.specs.Values.{bytes_at};
 ghost use Rattle.proto_wire.specs.declared.refusal.Refusal.TheVariants.{Missing};
 ghost use Rattle.proto_wire.specs.Oneof.{last_number, member_in};
@@ -16,7 +16,8 @@ ghost use Rattle.rbac_match.specs.steps.Leaves.{pattern_of};
 
 use memchr::memmem;
 use proto_wire::{
-    Field, Key, Refusal, bool_at, bytes_at, keys, last_number, read_message, text_of,
+    Fault, Field, Key, Refusal, at_field, bool_at, bytes_at, keys, last_number, read_message_at,
+    text_of,
 };
 use std::alloc::Global;
 use std::marker::Model;
@@ -79,11 +80,11 @@ const IGNORE_CASE: u32 = 6;
 
 pub(crate) const CONTAINS: u32 = 7;
 
-pub(crate) static STRING_MEMBERS: [Key; 5] = keys![
+static STRING_MEMBERS: [Key; 5] = keys![
     Len EXACT, Len PREFIX, Len SUFFIX, Len SAFE_REGEX, Len CONTAINS
 ];
 
-pub(crate) static STRING_MATCHER: [Key; 6] = keys![
+static STRING_MATCHER: [Key; 6] = keys![
     Varint IGNORE_CASE, Len EXACT, Len PREFIX, Len SUFFIX, Len SAFE_REGEX, Len CONTAINS
 ];
 
@@ -108,33 +109,33 @@ impl<'a> TextMatcher<'a> {
 pub(crate) fn read_text_matcher<'a>(
     alloc: Global,
     parts: &[&'a [u8]],
-) -> Result<TextMatcher<'a>, Refusal>
+) -> Result<TextMatcher<'a>, Fault>
     ensures found { IfOk result (λ m. IsTextMatcher (parts_view parts.now) m) }
-    ensures fault { IfErr result (MemoryOr (TextFault (parts_view parts.now))) }
+    ensures fault { IfErr result (FaultOr (TextFault (parts_view parts.now))) }
 {
-    let fields = read_message(alloc, parts, &STRING_MATCHER)?;
+    let fields = read_message_at(alloc, parts, &STRING_MATCHER)?;
     let (pattern, sought) = last_pattern(&fields)?;
     let ignore_case = bool_at(&fields, IGNORE_CASE);
     Ok(TextMatcher::new(pattern, sought, ignore_case))
 }
 
 /// The pattern and the text of the last member.
-fn last_pattern<'a>(fields: &[Field<'a>]) -> Result<(Pattern, &'a str), Refusal>
+fn last_pattern<'a>(fields: &[Field<'a>]) -> Result<(Pattern, &'a str), Fault>
     ensures found { let fs = map field_view fields.now in IfOk result (λ p.
         MatchOption (last_number (keys_of string_members) fs) ⊥ (λ n.
         (member_in string_members n ≡ Some p.0) × (p.1.now ≡ bytes_at n fs)
         × IsSought p.0 p.1.now)) }
     ensures fault { let fs = map field_view fields.now in IfErr result (λ e.
-        MatchOption (last_number (keys_of string_members) fs) (e ≡ Missing) (λ n.
-        SoughtFault (member_in string_members n) (bytes_at n fs) e)) }
+        MatchOption (last_number (keys_of string_members) fs) (e.refusal ≡ Missing) (λ n.
+        SoughtFault (member_in string_members n) (bytes_at n fs) e.refusal)) }
 {
     let Some(number) = last_number(fields, &STRING_MEMBERS) else {
-        return Err(Refusal::Missing);
+        return Err(Fault::at(Refusal::Missing, 0));
     };
     let Some(pattern) = pattern_at(number) else {
-        return Err(Refusal::Unsupported);
+        return Err(Fault::at(Refusal::Unsupported, number));
     };
-    let sought = sought_text(pattern, bytes_at(fields, number))?;
+    let sought = at_field(sought_text(pattern, bytes_at(fields, number)), number)?;
     Ok((pattern, sought))
 }
 

@@ -9,7 +9,7 @@ use Rattle.attributes.specs.Limits.{InLimits, LimitsValue}
 use Rattle.attributes.specs.Request.{IsRequest, RequestValue}
 use Rattle.cel_tree.specs.Checked.{CelChecked}
 use Rattle.cel_tree.specs.GoodConstants.{HasGoodConstants}
-use Rattle.cel_tree.proofs.GoodConstantLaws.{expr_good}
+use Rattle.cel_read.proofs.GoodConstantLaws.{expr_good}
 use Rattle.proto_wire.proofs.MapOrder.{above_all, both_first, both_second, found_later}
 use Rattle.rbac_match.specs.Formula.{Formulas, some_hold}
 use Rattle.stack_machine.specs.Machine.{RunsOut}

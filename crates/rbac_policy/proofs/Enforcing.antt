@@ -6,7 +6,7 @@ use Rattle.attributes.specs.Headers.{name_cmp}
 use Rattle.attributes.specs.Limits.{LimitsValue}
 use Rattle.cel_tree.specs.Checked.{CelChecked}
 use Rattle.cel_tree.specs.Message.{IsExprOf}
-use Rattle.cel_tree.proofs.CheckedLaws.{expr_given, expr_unique}
+use Rattle.cel_read.proofs.CheckedLaws.{expr_given, expr_unique}
 use Rattle.proto_wire.specs.Maps.{Entry, text, AreValues}
 use Rattle.proto_wire.specs.steps.Maps.{Held}
 use Rattle.proto_wire.proofs.MapOrder.{entries_from_entries}

@@ -1,4 +1,5 @@
 pub mod Besides
+pub mod Places
 pub mod Programs
 pub mod Enforcing
 pub mod Spending
@@ -12,7 +13,7 @@ pub mod OneVerdict
 pub mod StandardFacts
 pub mod StandardConditionFacts
 mod BudgetLemmas
-mod SieveLemmas
+mod IndexLemmas
 mod PolicyNames
 mod ConditionParts
 mod SideCauses

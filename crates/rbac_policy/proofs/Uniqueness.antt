@@ -13,7 +13,7 @@ use Rattle.rbac_match.proofs.RuleMessages.{rules_unique as rules_one}
 use Rattle.attributes.specs.Limits.{LimitsValue}
 use Rattle.cel_tree.specs.Checked.{CelChecked}
 use Rattle.cel_tree.specs.Message.{ExprParts}
-use Rattle.cel_tree.proofs.CheckedLaws.{expr_unique}
+use Rattle.cel_read.proofs.CheckedLaws.{expr_unique}
 use Rattle.rbac_policy.specs.Admission.{Admits}
 use Rattle.rbac_policy.specs.Condition.{Program}
 use Rattle.rbac_policy.specs.Enforced.{Enforces}

@@ -12,4 +12,5 @@ pub mod Named
 pub mod Admitted
 pub mod Admission
 pub mod Budget
+pub mod Places
 pub mod steps

@@ -3,5 +3,5 @@ pub mod Action
 pub mod Conditions
 pub mod Named
 pub mod Runs
-pub mod Sieve
+pub mod PolicyIndex
 pub mod Trials

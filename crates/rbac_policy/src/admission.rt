@@ -4,6 +4,7 @@ ghost use Rattle.std.specs.Prelude.{◌≡◌, ◌≢◌, ◌<◌, ◌≤◌, �
 ghost use Rattle.std.specs.FinMap.{entries};
 ghost use Rattle.cel_tree.specs.Checked.{CelChecked};
 ghost use Rattle.proto_wire.specs.Fields.{field_view};
+ghost use Rattle.proto_wire.specs.Places.{FaultOr, IsAt};
 ghost use Rattle.proto_wire.specs.Refusal.{MemoryOr};
 ghost use Rattle.proto_wire.specs.Values.{payloads};
 ghost use Rattle.proto_wire.specs.Maps.{Entry, text, Readable, map_of};
@@ -15,6 +16,7 @@ ghost use Rattle.rbac_policy.specs.Message.{AreFilterRules, action_in, action_nu
 ghost use Rattle.rbac_policy.specs.declared.filter.Action.TheVariants.{Log};
 ghost use Rattle.rbac_policy.specs.Fault.{FilterFault, HoldsPolicies, RulesFault};
 ghost use Rattle.rbac_policy.specs.Admission.{Admits, Fault};
+ghost use Rattle.rbac_policy.specs.Places.{FieldsOr, PlacedOr, of_filter};
 ghost use Rattle.rbac_policy.specs.steps.Conditions.{ConditionsFault};
 ghost use Rattle.rbac_policy.specs.Admitted.{filter_view, limits_view, filter_rules_view};
 
@@ -22,9 +24,12 @@ use crate::filter::{Action, Admitted, FilterRules};
 use crate::keys::{FILTER_KEYS, RULES_KEYS};
 use crate::numbers::{ACTION, AUDIT_LOGGING_OPTIONS, POLICIES, RULES};
 use crate::policy::read_policies;
-use crate::sieve::Sieve;
+use crate::policy_index::PolicyIndex;
 use attributes::Limits;
-use proto_wire::{Field, Refusal, has_payload, payloads_of, read_entries, read_message, uint32_at};
+use proto_wire::{
+    Fault as Placed, Field, Refusal, has_payload, inside_field, payloads_of, read_entries,
+    read_message_at, uint32_at,
+};
 use rbac_match::RuleList;
 use std::alloc::Global;
 
@@ -43,6 +48,23 @@ pub fn admit(alloc: Global, bytes: &[u8], limits: &Limits, budget: u64) -> Resul
     ensures limits { IfOk result (λ a. limits_view a ≡ limits.now) }
     ensures fault { IfErr result (MemoryOr (λ e. Fault e bytes.now limits.now budget)) }
 {
+    Ok(admit_at(alloc, bytes, limits, budget)?)
+}
+
+/// Reads a filter as `admit` does. The place of a fault is the part of the message that has it. For `TooCostly` it
+/// is the condition at which the budget is exceeded.
+pub fn admit_at(
+    alloc: Global,
+    bytes: &[u8],
+    limits: &Limits,
+    budget: u64,
+) -> Result<Admitted, Placed>
+    ensures found { IfOk result (λ a. (filter : Filter CelChecked)
+        × Admits bytes.now limits.now budget filter (filter_view a)) }
+    ensures limits { IfOk result (λ a. limits_view a ≡ limits.now) }
+    ensures fault { IfErr result (FaultOr (λ e. Fault e bytes.now limits.now budget)) }
+    ensures place { IfErr result (PlacedOr (of_filter bytes.now)) }
+{
     let rules = read_filter(alloc, bytes, limits, budget)?;
     Ok(Admitted::new(rules, *limits))
 }
@@ -53,28 +75,29 @@ fn read_filter(
     bytes: &[u8],
     limits: &Limits,
     budget: u64,
-) -> Result<FilterRules, Refusal>
+) -> Result<FilterRules, Placed>
     ensures found { IfOk result (λ rules. (filter : Filter CelChecked)
         × Admits bytes.now limits.now budget filter (filter_rules_view rules)) }
-    ensures fault { IfErr result (MemoryOr (λ e. FilterFault bytes.now e
+    ensures fault { IfErr result (FaultOr (λ e. FilterFault bytes.now e
         ⊎ ((policies : List (Entry text)) × HoldsPolicies bytes.now policies
         × ConditionsFault policies limits.now budget e))) }
+    ensures place { IfErr result (PlacedOr (of_filter bytes.now)) }
 {
-    let top = read_message(alloc, &[bytes], &FILTER_KEYS)?;
+    let top = read_message_at(alloc, &[bytes], &FILTER_KEYS)?;
     require_rules(&top)?;
     let parts = payloads_of(alloc, &top, RULES)?;
-    let fields = read_message(alloc, &parts, &RULES_KEYS)?;
-    read_rules(alloc, &fields, limits, budget)
+    let fields = inside_field(read_message_at(alloc, &parts, &RULES_KEYS), RULES, 0)?;
+    inside_field(read_rules(alloc, &fields, limits, budget), RULES, 0)
 }
 
 /// Refuses a filter without rules.
-fn require_rules(top: &[Field<'_>]) -> Result<(), Refusal>
+fn require_rules(top: &[Field<'_>]) -> Result<(), Placed>
     ensures found { OnOk result (payloads filter_field.rules (map field_view top.now) ≢ []) }
-    ensures fault { IfErr result (λ e. (e ≡ Missing)
+    ensures fault { IfErr result (λ f. IsAt filter_field.rules Missing f
         × (payloads filter_field.rules (map field_view top.now) ≡ [])) }
 {
     if !has_payload(top, RULES) {
-        return Err(Refusal::Missing);
+        return Err(Placed::at(Refusal::Missing, RULES));
     }
     Ok(())
 }
@@ -85,15 +108,16 @@ fn read_rules(
     fields: &[Field<'_>],
     limits: &Limits,
     budget: u64,
-) -> Result<FilterRules, Refusal>
+) -> Result<FilterRules, Placed>
     ensures found { IfOk result (λ rules. (filter : Filter CelChecked)
         × AreFilterRules (map field_view fields.now) filter
         × Enforces limits.now filter (filter_rules_view rules)) }
     ensures cheap { IfOk result (λ rules. total_bound (filter_rules_view rules) ≤ budget) }
-    ensures fault { IfErr result (MemoryOr (λ e. RulesFault (map field_view fields.now) e
+    ensures fault { IfErr result (FaultOr (λ e. RulesFault (map field_view fields.now) e
         ⊎ ((read : List (Entry text))
         × Readable text (payloads rules_field.policies (map field_view fields.now)) read
         × ConditionsFault (entries (map_of text read)) limits.now budget e))) }
+    ensures place { IfErr result (FieldsOr (map field_view fields.now)) }
 {
     refuse_audit_options(fields)?;
     let action = read_action(fields)?;
@@ -103,44 +127,45 @@ fn read_rules(
     let mut list = RuleList::new(alloc);
     let (policies, bound) = read_policies(&mut list, &named, limits, budget)?;
     list.shrink();
-    let sieve = Sieve::of(alloc, &list, &policies)?;
-    Ok(FilterRules::new(action, list, policies, sieve, bound))
+    let policy_index = PolicyIndex::of(alloc, &list, &policies)?;
+    Ok(FilterRules::new(action, list, policies, policy_index, bound))
 }
 
 /// Refuses rules with options of an audit log.
-pub(crate) fn refuse_audit_options(fields: &[Field<'_>]) -> Result<(), Refusal>
+fn refuse_audit_options(fields: &[Field<'_>]) -> Result<(), Placed>
     ensures found { OnOk result (payloads rules_field.audit_logging_options (map field_view fields.now)
         ≡ []) }
-    ensures fault { IfErr result (λ e. (e ≡ Unsupported)
+    ensures fault { IfErr result (λ f. IsAt rules_field.audit_logging_options Unsupported f
         × (payloads rules_field.audit_logging_options (map field_view fields.now) ≢ [])) }
 {
     if has_payload(fields, AUDIT_LOGGING_OPTIONS) {
-        return Err(Refusal::Unsupported);
+        return Err(Placed::at(Refusal::Unsupported, AUDIT_LOGGING_OPTIONS));
     }
     Ok(())
 }
 
 /// Refuses more policies than a filter may have.
-fn refuse_many(count: usize) -> Result<(), Refusal>
+fn refuse_many(count: usize) -> Result<(), Placed>
     ensures found { OnOk result (count ≤ most_policies) }
-    ensures fault { IfErr result (λ e. (e ≡ TooLarge) × (most_policies < count)) }
+    ensures fault { IfErr result (λ f. IsAt rules_field.policies TooLarge f × (most_policies < count)) }
 {
     if count > MOST_POLICIES {
-        return Err(Refusal::TooLarge);
+        return Err(Placed::at(Refusal::TooLarge, POLICIES));
     }
     Ok(())
 }
 
 /// The action: the low 32 bits of the enum's number, and 0 if the field is absent.
-pub(crate) fn read_action(fields: &[Field<'_>]) -> Result<Action, Refusal>
+fn read_action(fields: &[Field<'_>]) -> Result<Action, Placed>
     ensures { MatchResult result (λ action. action_in (map field_view fields.now)
         ≡ action_number action)
-        (λ e. (e ≡ OutOfRange) × (action_number Log < action_in (map field_view fields.now))) }
+        (λ f. IsAt rules_field.action OutOfRange f
+        × (action_number Log < action_in (map field_view fields.now))) }
 {
     match uint32_at(fields, ACTION) {
         0 => Ok(Action::Allow),
         1 => Ok(Action::Deny),
         2 => Ok(Action::Log),
-        _ => Err(Refusal::OutOfRange),
+        _ => Err(Placed::at(Refusal::OutOfRange, ACTION)),
     }
 }

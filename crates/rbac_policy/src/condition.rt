@@ -22,9 +22,10 @@ ghost use Rattle.stack_machine.specs.Typable.{Forward};
 
 use crate::trials::Reason;
 use attributes::{Limits, Request};
+use cel_check::check;
 use cel_compile::compile;
 use cel_tree::Checked;
-use cel_types::{Typed, check};
+use cel_types::Typed;
 use cel_value::{Answer, CelType, Value};
 use code_verifier::{VerifyFault, verify};
 use cost_bound::bound;

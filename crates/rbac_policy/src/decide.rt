@@ -11,11 +11,11 @@ ghost use Rattle.rbac_policy.specs.Filter.{Filter, Policy};
 ghost use Rattle.rbac_policy.specs.Named.{policy_view};
 ghost use Rattle.rbac_policy.specs.Verdict.{IsUnconditional, IsVerdict, SomeAsked, sides_match};
 ghost use Rattle.rbac_policy.specs.steps.Runs.{AnyProgram, Asks, HaveFailed, HaveNoConditions, IsFirst, PassesBound, SomeAsks, Tells};
-ghost use Rattle.rbac_policy.specs.steps.Sieve.{IsRuledOut, IsSieve, Sieves};
+ghost use Rattle.rbac_policy.specs.steps.PolicyIndex.{IsRuledOut, IsPolicyIndex, AreKeysFor};
 
 use crate::filter::{Admitted, Verdict};
 use crate::policy::NamedPolicy;
-use crate::sieve::{Probe, Sieve};
+use crate::policy_index::{PolicyIndex, RequestKeys};
 use attributes::{Request, request_is_sound};
 use rbac_match::{RuleList, any_matches};
 use stack_machine::RunError;
@@ -53,7 +53,7 @@ impl Admitted {
         let matched = first_match(
             self.alloc(),
             self.list(),
-            self.sieve(),
+            self.policy_index(),
             self.named_policies(),
             request,
         )?;
@@ -63,15 +63,15 @@ impl Admitted {
 }
 
 /// The number of the first policy that matches the request. The policies' rules are in the list, and the
-/// sieve is theirs.
+/// index is theirs.
 fn first_match(
     alloc: Global,
     list: &RuleList,
-    sieve: &Sieve,
+    policy_index: &PolicyIndex,
     policies: &[NamedPolicy],
     request: &Request,
 ) -> Result<Option<usize>, RunError>
-    requires { IsSieve sieve.now (map (policy_view list.now) policies.now) }
+    requires { IsPolicyIndex policy_index.now (map (policy_view list.now) policies.now) }
     ensures found { IfOk result (λ matched.
         IsFirst request.now 0 (map (policy_view list.now) policies.now) matched) }
     ensures always { HaveNoConditions (map (policy_view list.now) policies.now) → IsOk result }
@@ -86,27 +86,27 @@ fn first_match(
             if policy_matches(alloc, list, first, request)? {
                 return Ok(Some(0));
             }
-            if sieve.is_empty() {
+            if policy_index.is_empty() {
                 return first_later(alloc, list, None, policies, request);
             }
-            let probe = sieve.probe(request);
-            first_later(alloc, list, Some(&probe), policies, request)
+            let request_keys = policy_index.request_keys(request);
+            first_later(alloc, list, Some(&request_keys), policies, request)
         }
     }
 }
 
-/// The same, if the first policy does not match. Policies that the probe rules out are skipped, if there is a
-/// probe. The first policy often settles a decision, so the numbers of a request are computed only after it.
+/// The same, if the first policy does not match. Policies that the keys rule out are skipped, if there are
+/// keys. The first policy often settles a decision, so the numbers of a request are computed only after it.
 #[inline(always)]
 fn first_later(
     alloc: Global,
     list: &RuleList,
-    probe: Option<&Probe<'_>>,
+    request_keys: Option<&RequestKeys<'_>>,
     policies: &[NamedPolicy],
     request: &Request,
 ) -> Result<Option<usize>, RunError>
-    requires sieved { IfSome probe (λ seen.
-        Sieves seen.now request.now (map (policy_view list.now) policies.now)) }
+    requires indexed { IfSome request_keys (λ seen.
+        AreKeysFor seen.now request.now (map (policy_view list.now) policies.now)) }
     requires tried { (0 < length policies.now)
         × HaveFailed request.now (map (policy_view list.now) (take 1 policies.now)) }
     ensures found { IfOk result (λ matched.
@@ -119,7 +119,7 @@ fn first_later(
 {
     for number in 1..policies.len() {
         let policy = &policies[number];
-        if is_ruled_out(probe, number) {
+        if is_ruled_out(request_keys, number) {
             continue;
         }
         if policy_matches(alloc, list, policy, request)? {
@@ -129,14 +129,14 @@ fn first_later(
     Ok(None)
 }
 
-/// Whether the probe rules out the policy of this number, which then does not match.
+/// Whether the keys rule out the policy of this number, which then does not match.
 #[inline(always)]
-fn is_ruled_out(probe: Option<&Probe<'_>>, number: usize) -> bool
+fn is_ruled_out(request_keys: Option<&RequestKeys<'_>>, number: usize) -> bool
     ensures { (r : RequestValue) (ps : List (Policy Program))
-        → IfSome probe.entry (λ seen. Sieves seen.now r ps) → result ≡ true → IsRuledOut number r ps }
+        → IfSome request_keys.entry (λ seen. AreKeysFor seen.now r ps) → result ≡ true → IsRuledOut number r ps }
 {
-    match probe {
-        Some(probe) => probe.rules_out(number),
+    match request_keys {
+        Some(request_keys) => request_keys.rules_out(number),
         None => false,
     }
 }

@@ -5,10 +5,10 @@ ghost use Rattle.std.specs.FinMap.{is_sorted};
 ghost use Rattle.attributes.specs.Headers.{name_cmp};
 ghost use Rattle.rbac_policy.specs.Enforced.{bounds_of};
 ghost use Rattle.rbac_policy.specs.Named.{named_views, policy_view};
-ghost use Rattle.rbac_policy.specs.steps.Sieve.{IsSieve};
+ghost use Rattle.rbac_policy.specs.steps.PolicyIndex.{IsPolicyIndex};
 
 use crate::policy::NamedPolicy;
-use crate::sieve::Sieve;
+use crate::policy_index::PolicyIndex;
 use attributes::Limits;
 use rbac_match::RuleList;
 use std::alloc::Global;
@@ -49,17 +49,17 @@ pub struct Verdict {
 }
 
 /// What a filter enforces: the list of all rules, and the policies in ascending order of their names, each
-/// name once. The sieve is that of these policies. Their conditions together may take `bound` steps.
+/// name once. The index is that of these policies. Their conditions together may take `bound` steps.
 #[derive(Debug, Drop)]
 pub(crate) struct FilterRules {
     action: Action,
     list: RuleList,
     policies: Vec<NamedPolicy>,
-    sieve: Sieve,
+    policy_index: PolicyIndex,
     bound: u64,
     ghost ordered: { IsTrue (is_sorted name_cmp (named_views list policies.items)) },
     ghost bounded: { bound ≡ bounds_of (named_views list policies.items) },
-    ghost sieved: { IsSieve sieve (map (policy_view list) policies.items) },
+    ghost indexed: { IsPolicyIndex policy_index (map (policy_view list) policies.items) },
 }
 
 impl FilterRules {
@@ -67,17 +67,17 @@ impl FilterRules {
     ghost use Rattle.rbac_policy.specs.Admitted.{filter_rules_view};
 
     /// The rules of an action and policies, whose rules are in the list. The policies ascend by name, and the
-    /// sieve is theirs. Their conditions together may take `bound` steps.
+    /// index is theirs. Their conditions together may take `bound` steps.
     pub(crate) fn new(
         action: Action,
         list: RuleList,
         policies: Vec<NamedPolicy>,
-        sieve: Sieve,
+        policy_index: PolicyIndex,
         bound: u64,
     ) -> FilterRules
         requires ordered { IsTrue (is_sorted name_cmp (named_views list policies.items)) }
         requires bounded { bound ≡ bounds_of (named_views list policies.items) }
-        requires sieved { IsSieve sieve (map (policy_view list) policies.items) }
+        requires indexed { IsPolicyIndex policy_index (map (policy_view list) policies.items) }
         ensures { filter_rules_view result ≡ record {
           action = action;
           policies = from_entries (named_views list policies.items);
@@ -87,7 +87,7 @@ impl FilterRules {
             action,
             list,
             policies,
-            sieve,
+            policy_index,
             bound,
         }
     }
@@ -135,12 +135,12 @@ impl Admitted {
         &self.rules.policies
     }
 
-    /// The sieve of its policies.
+    /// The index of its policies.
     #[inline(always)]
-    pub(crate) fn sieve(&self) -> &Sieve
-        ensures { result.now ≡ self.now.rules.sieve }
+    pub(crate) fn policy_index(&self) -> &PolicyIndex
+        ensures { result.now ≡ self.now.rules.policy_index }
     {
-        &self.rules.sieve
+        &self.rules.policy_index
     }
 
     /// The allocator of its policies, from which runs of conditions take their memory.

@@ -13,14 +13,14 @@ mod numbers;
 mod place;
 mod place_in_condition;
 mod policy;
-mod sieve;
+mod policy_index;
 mod trials;
 mod written;
 
-pub use admission::admit;
+pub use admission::{admit, admit_at};
 pub use budget::{OverBudget, over_budget};
 pub use causes::PolicyCauses;
 pub use filter::{Admitted, Verdict};
-pub use place::place_of;
+pub use place::{place_of, place_of_fault};
 pub use trials::{Reason, Trial};
 pub use written::{WrittenCondition, written_condition};

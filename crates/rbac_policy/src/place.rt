@@ -1,25 +1,29 @@
-//! The place of a fault in a filter's message, for readers of a refusal. No contract mentions the place. Each
-//! part that is named was read by itself and has the fault.
+//! The place of a fault in a filter's message in words, for readers of a refusal. No contract mentions the words.
 
-use crate::admission::{read_action, refuse_audit_options};
-use crate::budget::over_budget;
-use crate::keys::POLICY_KEYS;
-use crate::numbers::{PERMISSIONS, POLICIES, PRINCIPALS, RULES};
-use crate::place_in_condition::place_in_condition;
-use crate::policy::{read_condition, read_policy};
-use attributes::Limits;
-use proto_wire::{Field, MapEntry, Refusal, payloads_of, read_entries, read_fields, read_parts};
-use rbac_match::{
-    AND, NOT, OR, RULE_DEPTH, RULES as SET_RULES, RuleList, Side, path_in_rule, read_rule,
-    trailing_run, unknown_field,
+use crate::admission::admit_at;
+use crate::numbers::{
+    ACTION, AUDIT_LOGGING_OPTIONS, CHECKED_CONDITION, PERMISSIONS, POLICIES, PRINCIPALS, RULES,
 };
-use smallvec::SmallVec;
+use crate::place_in_condition::place_in_condition;
+use attributes::Limits;
+use proto_wire::{
+    Fault, Field, MapEntry, Refusal, Step, len_of, payloads_of, read_entries, read_fields,
+    read_parts,
+};
+use rbac_match::{Side, path_in_rule, place_in_rule};
 use std::alloc::Global;
 
-/// The part of the filter's message that has this fault, such as
-/// `policy "p": permissions[0].and_rules.rules[2].header.name` or `policy "p": checked_condition.expr, node 5`.
-/// Control characters of the name are escaped. For `TooCostly` it is the condition at which the budget is exceeded,
-/// for requests within the limits. `None` if no part can be named.
+/// The step from a filter's rules to a policy, by its index.
+const TO_POLICY: usize = 1;
+
+/// The step from a policy to one of its rules, or to its condition.
+const INTO_POLICY: usize = 2;
+
+/// How many steps lead from a filter to a permission or a principal.
+const STEPS_TO_A_RULE: usize = 3;
+
+/// The part of the filter's message that has this fault, as `place_of_fault` names it. The filter is read again.
+/// `None` if no part can be named, or if the filter does not have this fault.
 pub fn place_of(
     alloc: Global,
     bytes: &[u8],
@@ -27,243 +31,128 @@ pub fn place_of(
     limits: &Limits,
     budget: u64,
 ) -> Option<String> {
-    if refusal == Refusal::TooCostly {
-        return Some(over_budget(alloc, bytes, limits, budget)?.place);
+    let fault = admit_at(alloc, bytes, limits, budget).err()?;
+    if fault.refusal != refusal {
+        return None;
     }
-    let top = read_fields(alloc, bytes).ok()?;
-    let rules = payloads_of(alloc, &top, RULES).ok()?;
-    place_in_rules(alloc, &rules, refusal)
+    place_of_fault(alloc, bytes, &fault)
 }
 
-/// The budget with which conditions are read again. Every other fault is found before a condition is bounded.
-/// A search for a bound without a budget might take as long as a run of the condition.
-const NO_STEPS: u64 = 0;
+/// The part of the filter's message that has the fault with which `admit_at` refused it, such as
+/// `policy "p": permissions[0].and_rules.rules[2].header.name` or `policy "p": checked_condition.expr, node 5`.
+/// Control characters of the name are escaped. For `TooCostly` it is the condition at which the budget is exceeded.
+/// `None` if no part can be named.
+pub fn place_of_fault(alloc: Global, bytes: &[u8], fault: &Fault) -> Option<String> {
+    fault.place.step(0)?;
+    let top = read_fields(alloc, bytes).ok()?;
+    let rules = payloads_of(alloc, &top, RULES).ok()?;
+    place_in_rules(alloc, &rules, fault)
+}
 
 // Each of these functions lends what it owns to the next. At an exit a function drops all that it owns, which
 // is expensive in a proof.
 
 /// The part of the filter's rules that has the fault.
-fn place_in_rules(alloc: Global, rules: &[&[u8]], refusal: Refusal) -> Option<String> {
+fn place_in_rules(alloc: Global, rules: &[&[u8]], fault: &Fault) -> Option<String> {
+    let Some(step) = fault.place.step(TO_POLICY) else {
+        return String::from_str(alloc, part_of_rules(fault)?).ok();
+    };
     let fields = read_parts(alloc, rules).ok()?;
-    match part_of_rules(&fields, refusal) {
-        Some(name) => String::from_str(alloc, name).ok(),
-        None => place_in_policies(alloc, &fields, refusal),
-    }
-}
-
-/// The first policy of the rules that has the fault by itself, and the part of it that has the fault.
-fn place_in_policies(alloc: Global, fields: &[Field<'_>], refusal: Refusal) -> Option<String> {
-    let entries = payloads_of(alloc, fields, POLICIES).ok()?;
-    place_in_entries(alloc, &entries, refusal)
-}
-
-fn place_in_entries(alloc: Global, entries: &[&[u8]], refusal: Refusal) -> Option<String> {
-    let named: Vec<MapEntry<'_, &str>> = read_entries(alloc, entries).ok()?;
-    for (name, parts) in &named {
-        if is_at_fault(alloc, name, parts, refusal) {
-            return place_in_policy(alloc, name, parts, refusal);
-        }
-    }
-    None
-}
-
-/// Whether this policy has the fault.
-fn is_at_fault(alloc: Global, name: &str, parts: &[&[u8]], refusal: Refusal) -> bool {
-    let mut list = RuleList::new(alloc);
-    read_policy(&mut list, name, parts, &Limits::largest(), NO_STEPS).err() == Some(refusal)
+    let entries = payloads_of(alloc, &fields, POLICIES).ok()?;
+    place_in_entries(alloc, &entries, step.position as usize, fault)
 }
 
 /// The field of the filter's rules that has the fault.
-fn part_of_rules(fields: &[Field<'_>], refusal: Refusal) -> Option<&'static str> {
-    if refuse_audit_options(fields).err() == Some(refusal) {
-        return Some("rules.audit_logging_options");
+fn part_of_rules(fault: &Fault) -> Option<&'static str> {
+    if fault.refusal == Refusal::UnknownField {
+        return None;
     }
-    if read_action(fields).err() == Some(refusal) {
-        return Some("rules.action");
+    match fault.place.field()? {
+        AUDIT_LOGGING_OPTIONS => Some("rules.audit_logging_options"),
+        ACTION => Some("rules.action"),
+        _ => None,
     }
-    None
 }
 
-/// This policy, and the part of it that has the fault: a rule, its condition, a field, or the policy itself.
-fn place_in_policy(alloc: Global, name: &str, parts: &[&[u8]], refusal: Refusal) -> Option<String> {
-    match part_of_policy(alloc, parts, refusal) {
+/// The policy of this number, in the order of the policies' names, and the part of it that has the fault.
+fn place_in_entries(
+    alloc: Global,
+    entries: &[&[u8]],
+    number: usize,
+    fault: &Fault,
+) -> Option<String> {
+    let named: Vec<MapEntry<'_, &str>> = read_entries(alloc, entries).ok()?;
+    let entry = named.get(number)?;
+    place_in_policy(alloc, entry.0, &entry.1, fault)
+}
+
+fn place_in_policy(alloc: Global, name: &str, parts: &[&[u8]], fault: &Fault) -> Option<String> {
+    match part_of_policy(alloc, parts, fault) {
         Some(part) => format!(in alloc; "policy {name:?}{part}").ok(),
         None => format!(in alloc; "policy {name:?}").ok(),
     }
 }
 
-fn part_of_policy(alloc: Global, parts: &[&[u8]], refusal: Refusal) -> Option<String> {
+fn part_of_policy(alloc: Global, parts: &[&[u8]], fault: &Fault) -> Option<String> {
+    let Some(step) = fault.place.step(INTO_POLICY) else {
+        let number = fault.place.field()?;
+        return format!(in alloc; ", field {number}").ok();
+    };
     let fields = read_parts(alloc, parts).ok()?;
-    if refusal == Refusal::UnknownField {
-        if let Some(number) = unknown_field(&fields, &POLICY_KEYS) {
-            return format!(in alloc; ", field {number}").ok();
-        }
-    }
-    let part = named_part(alloc, &fields, refusal)?;
+    let part = part_of_fields(alloc, &fields, step, fault)?;
     format!(in alloc; ": {part}").ok()
 }
 
-fn named_part(alloc: Global, fields: &[Field<'_>], refusal: Refusal) -> Option<String> {
-    if let Some(path) = path_in_side(alloc, Side::Permission, fields, refusal) {
-        return Some(path);
+/// The rule or the condition to which the step leads, and the part of it that has the fault.
+fn part_of_fields(
+    alloc: Global,
+    fields: &[Field<'_>],
+    step: Step,
+    fault: &Fault,
+) -> Option<String> {
+    match step.number {
+        PERMISSIONS => part_of_side(alloc, Side::Permission, fields, step, fault),
+        PRINCIPALS => part_of_side(alloc, Side::Principal, fields, step, fault),
+        _ if fault.refusal == Refusal::TooCostly => {
+            let field = match step.number {
+                CHECKED_CONDITION => "checked_condition",
+                _ => "condition",
+            };
+            String::from_str(alloc, field).ok()
+        }
+        _ => place_in_condition(alloc, fields, fault.refusal),
     }
-    if let Some(path) = path_in_side(alloc, Side::Principal, fields, refusal) {
-        return Some(path);
-    }
-    if is_condition_at_fault(alloc, fields, refusal) {
-        return place_in_condition(alloc, fields, refusal);
-    }
-    None
 }
 
-/// Whether the condition of these fields has the fault.
-fn is_condition_at_fault(alloc: Global, fields: &[Field<'_>], refusal: Refusal) -> bool {
-    read_condition(alloc, fields, &Limits::largest(), NO_STEPS).err() == Some(refusal)
-}
-
-/// The path to the innermost part of one side's rules that has the fault.
-fn path_in_side(
+/// The rule of this side to which the step leads, and the path to the part of it that has the fault.
+fn part_of_side(
     alloc: Global,
     side: Side,
     fields: &[Field<'_>],
-    refusal: Refusal,
+    step: Step,
+    fault: &Fault,
 ) -> Option<String> {
-    let (number, name) = match side {
-        Side::Permission => (PERMISSIONS, "permissions"),
-        Side::Principal => (PRINCIPALS, "principals"),
+    let name = match side {
+        Side::Permission => "permissions",
+        Side::Principal => "principals",
     };
-    let rules = payloads_of(alloc, fields, number).ok()?;
-    path_in_rules(alloc, side, name, &rules, refusal)
+    let position = step.position as usize;
+    let rule = len_of(fields.get(position)?, step.number)?;
+    let index = index_of(fields, step.number, position);
+    let path = match fault.place.is_cut_short() {
+        true => path_in_rule(alloc, side, rule, fault.refusal)?,
+        false => place_in_rule(alloc, side, fault, STEPS_TO_A_RULE)?,
+    };
+    format!(in alloc; "{name}[{index}]{path}").ok()
 }
 
-fn path_in_rules(
-    alloc: Global,
-    side: Side,
-    name: &str,
-    rules: &[&[u8]],
-    refusal: Refusal,
-) -> Option<String> {
-    let index = index_at_fault(alloc, side, rules, RULE_DEPTH, refusal)?;
-    let mut rule = *rules.get(index)?;
-    let mut path = format!(in alloc; "{name}[{index}]").ok()?;
-    for depth in (0..RULE_DEPTH).rev() {
-        let Some((step, inner)) = inner_at_fault(alloc, side, rule, depth, refusal) else {
-            return with_field(alloc, path, side, rule, refusal);
-        };
-        path.push_str(step.as_str()).ok()?;
-        rule = inner;
+/// How many fields of this number stand before the position.
+fn index_of(fields: &[Field<'_>], number: u32, position: usize) -> usize {
+    let mut index = 0usize;
+    for (at, field) in fields.iter().enumerate() {
+        if at < position && field.number == number {
+            index = index.saturating_add(1);
+        }
     }
-    Some(path)
-}
-
-/// The path to a rule, and on to the field of it that has the fault. A rule of too many levels has no such field.
-fn with_field(
-    alloc: Global,
-    path: String,
-    side: Side,
-    rule: &[u8],
-    refusal: Refusal,
-) -> Option<String> {
-    if refusal == Refusal::TooLarge {
-        return Some(path);
-    }
-    let field = path_in_rule(alloc, side, rule, refusal)?;
-    format!(in alloc; "{path}{field}").ok()
-}
-
-/// The rules directly inside another rule: the step to them, and whether they are numbered.
-#[derive(Drop)]
-struct Inside<'a> {
-    step: &'static str,
-    numbered: bool,
-    rules: SmallVec<&'a [u8], 1>,
-}
-
-/// The first rule inside this one that has the fault, if it may have `depth` levels, and the step to it.
-fn inner_at_fault<'a>(
-    alloc: Global,
-    side: Side,
-    rule: &'a [u8],
-    depth: u32,
-    refusal: Refusal,
-) -> Option<(String, &'a [u8])> {
-    let inside = inside_of(alloc, side, rule)?;
-    first_at_fault(alloc, side, &inside, depth, refusal)
-}
-
-fn first_at_fault<'a>(
-    alloc: Global,
-    side: Side,
-    inside: &Inside<'a>,
-    depth: u32,
-    refusal: Refusal,
-) -> Option<(String, &'a [u8])> {
-    let index = index_at_fault(alloc, side, &inside.rules, depth, refusal)?;
-    let rule = *inside.rules.get(index)?;
-    let step = step_to(alloc, inside.step, inside.numbered, index)?;
-    Some((step, rule))
-}
-
-fn step_to(alloc: Global, step: &str, numbered: bool, index: usize) -> Option<String> {
-    if numbered {
-        return format!(in alloc; "{step}[{index}]").ok();
-    }
-    String::from_str(alloc, step).ok()
-}
-
-/// The rules inside this one, if it has any.
-fn inside_of<'a>(alloc: Global, side: Side, rule: &'a [u8]) -> Option<Inside<'a>> {
-    let fields = read_fields(alloc, rule).ok()?;
-    inside_of_fields(alloc, side, &fields)
-}
-
-fn inside_of_fields<'a>(alloc: Global, side: Side, fields: &[Field<'a>]) -> Option<Inside<'a>> {
-    let number = fields.last()?.number;
-    let step = step_of(side, number)?;
-    let payloads = payloads_of(alloc, trailing_run(fields), number).ok()?;
-    if number == NOT {
-        return Some(Inside {
-            step,
-            numbered: false,
-            rules: payloads,
-        });
-    }
-    Some(Inside {
-        step,
-        numbered: true,
-        rules: rules_of_set(alloc, &payloads)?,
-    })
-}
-
-/// The rules of a set in these payloads.
-fn rules_of_set<'a>(alloc: Global, payloads: &[&'a [u8]]) -> Option<SmallVec<&'a [u8], 1>> {
-    let set = read_parts(alloc, payloads).ok()?;
-    payloads_of(alloc, &set, SET_RULES).ok()
-}
-
-/// The step to the rules in the member of this number, by Envoy's names.
-fn step_of(side: Side, number: u32) -> Option<&'static str> {
-    match (side, number) {
-        (Side::Permission, AND) => Some(".and_rules.rules"),
-        (Side::Permission, OR) => Some(".or_rules.rules"),
-        (Side::Permission, NOT) => Some(".not_rule"),
-        (Side::Principal, AND) => Some(".and_ids.ids"),
-        (Side::Principal, OR) => Some(".or_ids.ids"),
-        (Side::Principal, NOT) => Some(".not_id"),
-        _ => None,
-    }
-}
-
-/// The index of the first rule that has the fault by itself.
-fn index_at_fault(
-    alloc: Global,
-    side: Side,
-    rules: &[&[u8]],
-    depth: u32,
-    refusal: Refusal,
-) -> Option<usize> {
-    rules.iter().position(|rule| {
-        let mut list = RuleList::new(alloc);
-        read_rule(&mut list, side, &[*rule], depth).err() == Some(refusal)
-    })
+    index
 }

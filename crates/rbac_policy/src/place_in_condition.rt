@@ -1,10 +1,9 @@
 //! The place of a fault in a condition: the node that is refused, or the entry of a map. No contract mentions it.
 
 use crate::numbers::{CHECKED_CONDITION, CONDITION};
-use cel_tree::{
-    Checked, FaultyPart, faulty_expr, faulty_part, read_checked_parts, read_unchecked_parts,
-};
-use cel_types::faulty_node;
+use cel_check::faulty_node;
+use cel_read::{FaultyPart, faulty_expr, faulty_part, read_checked_parts, read_unchecked_parts};
+use cel_tree::Checked;
 use proto_wire::{Field, Refusal, has_payload, payloads_of};
 use std::alloc::Global;
 

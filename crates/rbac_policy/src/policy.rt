@@ -1,6 +1,6 @@
 //! Policies, and the reading of their messages.
 
-ghost use Rattle.std.specs.Prelude.{◌≡◌, ◌≢◌, ◌≤◌, ◌+◌, ◌⊎◌, ◌++◌, ◌∷◌, [], List, T, IfOk, IfErr, OnOk, MatchBool, map, option_map};
+ghost use Rattle.std.specs.Prelude.{◌≡◌, ◌≢◌, ◌≤◌, ◌+◌, ◌⊎◌, ◌++◌, ◌∷◌, [], List, T, IfOk, IfErr, OnOk, MatchBool, length, map, option_map};
 ghost use Rattle.std.specs.FinMap.{is_sorted};
 ghost use Rattle.std.specs.String.{string_bytes};
 ghost use Rattle.attributes.specs.Headers.{name_cmp};
@@ -8,29 +8,32 @@ ghost use Rattle.proto_wire.specs.Fields.{field_view};
 ghost use Rattle.proto_wire.specs.Values.{payloads};
 ghost use Rattle.proto_wire.specs.Maps.{text, SomeValueFault};
 ghost use Rattle.proto_wire.specs.steps.Maps.{Held};
+ghost use Rattle.proto_wire.specs.Places.{FaultOr};
 ghost use Rattle.proto_wire.specs.Refusal.{MemoryOr};
 ghost use Rattle.proto_wire.specs.Merge.{parts_view};
-ghost use Rattle.rbac_match.specs.Rules.{IsRule, AreRules, SomeRuleFault};
 ghost use Rattle.rbac_match.specs.Tokens.{GoesOn, Token};
-ghost use Rattle.rbac_match.specs.View.{rules_view};
 ghost use Rattle.rbac_policy.specs.Enforced.{bound_of, bounds_of};
 ghost use Rattle.rbac_policy.specs.Keys.{policy_field};
 ghost use Rattle.cel_tree.specs.Message.{ExprFault, IsExprOf, ArePresent};
 ghost use Rattle.cel_tree.specs.View.{checked_view};
-ghost use Rattle.rbac_policy.specs.Message.{HasBothSides, condition_in, rule_depth};
+ghost use Rattle.rbac_policy.specs.Message.{HasBothSides, condition_in};
 ghost use Rattle.rbac_policy.specs.Fault.{PolicyFault};
 ghost use Rattle.rbac_policy.specs.Named.{named_views, policy_view, program_view};
+ghost use Rattle.rbac_policy.specs.Places.{ConditionOr, EntryOr, PlacedOr, PoliciesOr, condition_field, of_policy};
 ghost use Rattle.rbac_policy.specs.steps.Conditions.{ConditionFault, ConditionsFault, HasProgram, IsEnforced};
 ghost use Rattle.rbac_policy.specs.steps.Named.{names_view};
 ghost use Rattle.proto_wire.specs.declared.refusal.Refusal.TheVariants.{BothConditions, Missing};
 
 use crate::condition::{Condition, condition_of};
 use crate::keys::POLICY_KEYS;
-use crate::numbers::{CHECKED_CONDITION, CONDITION, PERMISSIONS, PRINCIPALS};
+use crate::numbers::{CHECKED_CONDITION, CONDITION, PERMISSIONS, POLICIES, PRINCIPALS};
 use attributes::Limits;
-use cel_tree::{Checked, read_checked_parts, read_unchecked_parts};
-use proto_wire::{Field, MapEntry, Refusal, has_payload, payloads_of, read_message};
-use rbac_match::{RULE_DEPTH, RuleList, Rules, Side, read_rules};
+use cel_read::{read_checked_parts, read_unchecked_parts};
+use cel_tree::Checked;
+use proto_wire::{
+    Fault, Field, MapEntry, Refusal, has_payload, inside_field, payloads_of, read_message_at,
+};
+use rbac_match::{RULE_DEPTH, RuleList, Rules, Side, read_rules_at};
 use std::alloc::Global;
 
 /// A policy with its name. It matches if some permission and some principal match, and its condition is true,
@@ -57,57 +60,85 @@ impl NamedPolicy {
 
 /// Reads the policies of the map's entries, which ascend by name, for requests within the limits, and appends
 /// their rules to the list. Their conditions together may take at most `budget` steps. Also gives how many
-/// steps they may take.
+/// steps they may take. The place of a fault begins with the policy, by its index.
 pub(crate) fn read_policies(
     list: &mut RuleList,
     named: &[MapEntry<'_, &str>],
     limits: &Limits,
     budget: u64,
-) -> Result<(Vec<NamedPolicy>, u64), Refusal>
+) -> Result<(Vec<NamedPolicy>, u64), Fault>
     requires { T (is_sorted name_cmp (names_view named.now)) }
     ensures found { IfOk result (λ r. Held text (IsEnforced limits.now)
         (names_view named.now) (named_views list.new r.0.items)) }
     ensures cost { IfOk result (λ r. r.1 ≡ bounds_of (named_views list.new r.0.items)) }
     ensures cheap { IfOk result (λ r. r.1 ≤ budget) }
-    ensures fault { IfErr result (MemoryOr (λ e.
+    ensures fault { IfErr result (FaultOr (λ e.
         SomeValueFault text PolicyFault (names_view named.now) e
         ⊎ ConditionsFault (names_view named.now) limits.now budget e)) }
+    ensures place { IfErr result (PoliciesOr (names_view named.now)) }
 {
     let mut policies = Vec::with_capacity(list.alloc(), named.len())?;
     let mut spent = 0;
     for entry in named {
-        let policy = read_policy(list, entry.0, &entry.1, limits, budget - spent)?;
+        let policy = read_entry(list, entry, policies.len(), limits, budget - spent)?;
         spent += policy.bound();
         policies.push(policy)?;
     }
     Ok((policies, spent))
 }
 
+/// Reads the policy of an entry as `read_policy` does; it has this number in the order of names.
+fn read_entry(
+    list: &mut RuleList,
+    entry: &MapEntry<'_, &str>,
+    number: usize,
+    limits: &Limits,
+    left: u64,
+) -> Result<NamedPolicy, Fault>
+    ensures named { IfOk result (λ policy. string_bytes policy.name ≡ entry.now.0.now) }
+    ensures found { IfOk result (λ policy. (more : List Token) → IsEnforced limits.now
+        (parts_view entry.now.1.items) (policy_view (list.new ++ more) policy)) }
+    ensures kept { OnOk result (GoesOn list.old list.new) }
+    ensures cheap { IfOk result (λ policy. bound_of (option_map program_view policy.condition)
+        ≤ left) }
+    ensures fault { IfErr result (FaultOr (λ e. PolicyFault (parts_view entry.now.1.items) e
+        ⊎ ConditionsFault ((entry.now.0.now, parts_view entry.now.1.items) ∷ []) limits.now left e)) }
+    ensures place { IfErr result (EntryOr number (entry.now.0.now, parts_view entry.now.1.items)) }
+{
+    inside_field(
+        read_policy(list, entry.0, &entry.1, limits, left),
+        POLICIES,
+        number,
+    )
+}
+
 /// Reads a policy from its parts, for requests within the limits; its condition may take at most `left`
-/// steps. Appends its rules to the list, where they stay if it grows.
+/// steps. Appends its rules to the list, where they stay if it grows. The place of a fault is the part of the
+/// policy that has it; for `TooCostly` it is the condition.
 pub(crate) fn read_policy(
     list: &mut RuleList,
     name: &str,
     parts: &[&[u8]],
     limits: &Limits,
     left: u64,
-) -> Result<NamedPolicy, Refusal>
+) -> Result<NamedPolicy, Fault>
     ensures named { IfOk result (λ policy. string_bytes policy.name ≡ name.now) }
     ensures found { IfOk result (λ policy. (more : List Token) → IsEnforced limits.now
         (parts_view parts.now) (policy_view (list.new ++ more) policy)) }
     ensures kept { OnOk result (GoesOn list.old list.new) }
     ensures cheap { IfOk result (λ policy. bound_of (option_map program_view policy.condition)
         ≤ left) }
-    ensures fault { IfErr result (MemoryOr (λ e. PolicyFault (parts_view parts.now) e
+    ensures fault { IfErr result (FaultOr (λ e. PolicyFault (parts_view parts.now) e
         ⊎ ConditionsFault ((name.now, parts_view parts.now) ∷ []) limits.now left e)) }
+    ensures place { IfErr result (PlacedOr (of_policy (parts_view parts.now))) }
 {
     let alloc = list.alloc();
-    let fields = read_message(alloc, parts, &POLICY_KEYS)?;
+    let fields = read_message_at(alloc, parts, &POLICY_KEYS)?;
     refuse_both(&fields)?;
     require_sides(&fields)?;
-    let permissions = read_side(list, Side::Permission, &fields, PERMISSIONS)?;
-    let principals = read_side(list, Side::Principal, &fields, PRINCIPALS)?;
-    let condition = read_condition(alloc, &fields, limits, left)?;
+    let permissions = read_rules_at(list, Side::Permission, &fields, PERMISSIONS, RULE_DEPTH)?;
+    let principals = read_rules_at(list, Side::Principal, &fields, PRINCIPALS, RULE_DEPTH)?;
+    let condition = condition_at(alloc, &fields, limits, left)?;
     let name = String::from_str(alloc, name)?;
     Ok(NamedPolicy {
         name,
@@ -134,8 +165,38 @@ fn refuse_both(fields: &[Field<'_>]) -> Result<(), Refusal>
     Err(Refusal::BothConditions)
 }
 
+/// Reads the condition as `read_condition` does. The place of a fault is the condition.
+fn condition_at(
+    alloc: Global,
+    fields: &[Field<'_>],
+    limits: &Limits,
+    left: u64,
+) -> Result<Option<Condition>, Fault>
+    ensures found { IfOk result (λ found. HasProgram limits.now
+        (condition_in (map field_view fields.now)) (option_map program_view found)) }
+    ensures cheap { IfOk result (λ found. bound_of (option_map program_view found) ≤ left) }
+    ensures fault { IfErr result (FaultOr (λ e. ArePresent (condition_in (map field_view fields.now))
+        × ConditionFault (condition_in (map field_view fields.now)) limits.now left e)) }
+    ensures place { IfErr result (ConditionOr (map field_view fields.now)) }
+{
+    match read_condition(alloc, fields, limits, left) {
+        Ok(condition) => Ok(condition),
+        Err(refusal) => Err(Fault::at(refusal, 0).inside(condition_number(fields), 0)),
+    }
+}
+
+/// The number of the field that has the condition, if there is one.
+fn condition_number(fields: &[Field<'_>]) -> u32
+    ensures { result ≡ condition_field (condition_in (map field_view fields.now)) }
+{
+    if has_payload(fields, CHECKED_CONDITION) {
+        return CHECKED_CONDITION;
+    }
+    CONDITION
+}
+
 /// Reads the condition, checked or not, if there is one.
-pub(crate) fn read_condition(
+fn read_condition(
     alloc: Global,
     fields: &[Field<'_>],
     limits: &Limits,
@@ -192,21 +253,4 @@ fn require_sides(fields: &[Field<'_>]) -> Result<(), Refusal>
         return Err(Refusal::Missing);
     }
     Ok(())
-}
-
-/// Reads the rules of one side of a policy.
-fn read_side(
-    list: &mut RuleList,
-    side: Side,
-    fields: &[Field<'_>],
-    number: u32,
-) -> Result<Rules, Refusal>
-    ensures found { IfOk result (λ rules. (more : List Token) →
-        AreRules (IsRule side rule_depth) (payloads number (map field_view fields.now))
-        (rules_view (list.new ++ more) rules)) }
-    ensures kept { OnOk result (GoesOn list.old list.new) }
-    ensures fault { IfErr result (MemoryOr
-        (SomeRuleFault side rule_depth (payloads number (map field_view fields.now)))) }
-{
-    read_rules(list, side, fields, number, RULE_DEPTH)
 }

@@ -7,7 +7,7 @@ use Rattle.proto_wire.specs.Values.{payloads}
 use Rattle.rbac_match.specs.Authenticated.{authenticated_field, authenticated_keys, AuthenticatedFault, authenticated_fields, in_name}
 use Rattle.rbac_match.specs.Text.{TextFault}
 use Rattle.rbac_match.proofs.Basics.{payloads_some}
-use Rattle.rbac_match.proofs.Exits.{exit_memory_or}
+use Rattle.rbac_match.proofs.Exits.{exit_memory_or, placed_fault}
 use Rattle.rbac_match.proofs.authenticated.read_authenticated.Goals as goal
 
 pub returns-in_err-fields-clause-fault : goal.returns-in_err-fields-clause-fault
@@ -17,8 +17,8 @@ returns-in_err-fields-clause-fault c =
     c.from_residual.result _ c.from_residual.ensures.1
     c.in_err-fields.ensures.fault (λ e bad. authenticated_fields bad)
 
-pub returns-in_err-read_text_matcher-clause-fault : goal.returns-in_err-read_text_matcher-clause-fault
-returns-in_err-read_text_matcher-clause-fault c =
+pub returns-in_err-inside_field-clause-fault : goal.returns-in_err-inside_field-clause-fault
+returns-in_err-inside_field-clause-fault c =
     let parts : List (List ℕ) = parts_view c.args.parts.now in
     let fs : List Wire = map field_view c.in_ok-fields.fields.items in
     let message : IsMessage authenticated_keys parts fs = c.in_ok-fields.ensures.found in
@@ -28,5 +28,7 @@ returns-in_err-read_text_matcher-clause-fault c =
     let some : payloads authenticated_field.principal_name fs ≢ [] =
     payloads_some c.deref-2.result.now (payloads authenticated_field.principal_name fs) given (rw c.deref-2.ensures more) in
     exit_memory_or (TextFault (payloads authenticated_field.principal_name fs)) (AuthenticatedFault parts)
-    c.from_residual-in_err-read_text_matcher.result _ c.from_residual-in_err-read_text_matcher.ensures.1
-    (rw given at c.in_err-read_text_matcher.ensures.fault) (λ e bad. in_name fs message.0 some bad)
+    c.from_residual-in_err-inside_field.result _ c.from_residual-in_err-inside_field.ensures.1
+    (placed_fault (TextFault (payloads authenticated_field.principal_name fs))
+    (TextFault (payloads authenticated_field.principal_name fs)) 2 0 c.read_text_matcher.result _ c.in_err-inside_field.ensures
+    (rw given at c.read_text_matcher.ensures.fault) (λ e bad. bad)) (λ e bad. in_name fs message.0 some bad)

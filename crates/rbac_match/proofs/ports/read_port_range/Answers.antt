@@ -1,14 +1,12 @@
 -- Each refusal of a range of ports is a fault that is there.
-use Rattle.std.proofs.Common.{ℕ, ◌≡◌, List, map}
+use Rattle.std.proofs.Common.{ℕ, List, map}
 use Rattle.proto_wire.specs.Fields.{Wire, field_view}
 use Rattle.proto_wire.specs.Merge.{parts_view}
 use Rattle.proto_wire.specs.Messages.{IsMessage, MessageFault}
-use Rattle.proto_wire.specs.declared.refusal.Refusal.TheVariants.{OutOfRange}
 use Rattle.rbac_match.specs.Message.{range_keys}
 use Rattle.rbac_match.specs.Ports.{PortRangeFault, range_fields, no_bounds}
-use Rattle.rbac_match.specs.steps.Ports.{AreNoBounds}
 use Rattle.rbac_match.proofs.PortsMessages.{bounds_disjoint}
-use Rattle.rbac_match.proofs.Exits.{exit_memory_or, last_fault}
+use Rattle.rbac_match.proofs.Exits.{exit_memory_or, exit_new}
 use Rattle.rbac_match.proofs.ports.read_port_range.Goals as goal
 
 pub returns-in_err-fields-clause-fault : goal.returns-in_err-fields-clause-fault
@@ -18,11 +16,12 @@ returns-in_err-fields-clause-fault c =
     c.from_residual.ensures.1 c.in_err-fields.ensures.fault
     (λ e bad. range_fields bad)
 
-pub returns-clause-fault : goal.returns-clause-fault
-returns-clause-fault c =
+pub returns-in_err-port_range-clause-fault : goal.returns-in_err-port_range-clause-fault
+returns-in_err-port_range-clause-fault c =
     let parts : List (List ℕ) = parts_view c.args.parts.now in
     let fs : List Wire = map field_view c.in_ok-fields.fields.items in
     let message : IsMessage range_keys parts fs = c.in_ok-fields.ensures.found in
-    last_fault (λ e. AreNoBounds fs × (e ≡ OutOfRange)) (PortRangeFault parts) c.port_range.result
-    (rw c.deref.ensures at c.port_range.ensures.fault)
-    (λ e bad. no_bounds fs message.0 (λ span are. bounds_disjoint fs span are bad.0) bad.1)
+    let bad = rw c.deref.ensures at c.in_err-port_range.ensures.fault in
+    exit_new (PortRangeFault parts) c.from_residual-in_err-port_range.result _
+    c.from_residual-in_err-port_range.ensures.1
+    (no_bounds fs message.0 (λ span are. bounds_disjoint fs span are bad.0) bad.1)

@@ -5,8 +5,8 @@ use Rattle.rbac_match.specs.Rules.{IsRule, AreRules}
 use Rattle.rbac_match.specs.Tokens.{AddsRules}
 use Rattle.rbac_match.proofs.read.+rule.Given as goal
 
-abbrev pub decreases-read_rule : goal.decreases-read_rule
-decreases-read_rule l = 4 * l.depth
+abbrev pub decreases-read_rule_at : goal.decreases-read_rule_at
+decreases-read_rule_at l = 4 * l.depth
 
 abbrev pub decreases-read_each : goal.decreases-read_each
 decreases-read_each l = 4 * l.depth + 1
@@ -17,7 +17,7 @@ decreases-read_set l = 4 * l.depth + 2
 abbrev pub decreases-read_member : goal.decreases-read_member
 decreases-read_member l = 4 * l.depth + 3
 
-abbrev pub invariant-read_each-loop-field : goal.invariant-read_each-loop-field
-invariant-read_each-loop-field l =
-    AddsRules (AreRules (IsRule l.side l.depth) (payloads l.number (map field_view (take l.field-index l.fields))))
+abbrev pub invariant-read_each-loop-index : goal.invariant-read_each-loop-index
+invariant-read_each-loop-index l =
+    AddsRules (AreRules (IsRule l.side l.depth) (payloads l.number (map field_view (take l.index l.fields))))
     l.fn.list l.list

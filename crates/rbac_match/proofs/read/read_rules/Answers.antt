@@ -1,15 +1,16 @@
-use Rattle.std.proofs.Common.{◌-◌, ℕ, List, length, ap, ◌∙◌}
-use Rattle.rbac_match.specs.Tokens.{Token}
-use Rattle.rbac_match.proofs.Adding.{added_rules}
+use Rattle.std.proofs.Common.{List, map}
+use Rattle.proto_wire.specs.Fields.{Wire, field_view}
+use Rattle.proto_wire.specs.Refusal.{MemoryOr}
+use Rattle.proto_wire.specs.Values.{payloads}
+use Rattle.rbac_match.specs.Rules.{SomeRuleFault}
+use Rattle.rbac_match.proofs.Exits.{exit_unplaced}
+use Rattle.rbac_match.proofs.Places.{some_fault}
 use Rattle.rbac_match.proofs.read.read_rules.Goals as goal
 
-pub returns-clause-found : goal.returns-clause-found
-returns-clause-found c =
-    let added = c.in_ok-read_each.ensures.found in
-    let after : List Token = c.read_each.new.list in
-    let from = c.in_ok-since.ensures.0 ∙ c.len-place.ensures in
-    let count = c.in_ok-since.ensures.1 ∙ ap (λ (n : ℕ). length after - n) c.len-place.ensures in
-    λ more. rw (added_rules c.args.list.now after added.0 c.in_ok-since.field-0 more added.2 from count) added.1
-
-pub returns-clause-kept : goal.returns-clause-kept
-returns-clause-kept c = let added = c.in_ok-read_each.ensures.found in (_, added.2)
+pub returns-in_err-read_rules_at-clause-fault : goal.returns-in_err-read_rules_at-clause-fault
+returns-in_err-read_rules_at-clause-fault c =
+    let fs : List Wire = map field_view c.args.fields.now in
+    exit_unplaced (MemoryOr (SomeRuleFault c.args.side c.args.depth (payloads c.args.number fs)))
+    c.from_residual.result c.in_err-read_rules_at.field-0.0 c.from_residual.ensures.1
+    (some_fault c.args.side c.args.depth c.args.number fs c.in_err-read_rules_at.field-0.0
+    c.in_err-read_rules_at.ensures.fault)

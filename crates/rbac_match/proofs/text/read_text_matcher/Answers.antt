@@ -1,5 +1,5 @@
 use Rattle.std.proofs.Common.{ℕ, List, map}
-use Rattle.rbac_match.proofs.Exits.{exit_memory_or, exit_fault}
+use Rattle.rbac_match.proofs.Exits.{exit_memory_or, exit_known}
 use Rattle.proto_wire.specs.Fields.{Wire, field_view}
 use Rattle.proto_wire.specs.Merge.{parts_view}
 use Rattle.proto_wire.specs.Messages.{IsMessage, MessageFault}
@@ -19,7 +19,7 @@ returns-in_err-pattern-clause-fault c =
     let parts : List (List ℕ) = parts_view c.args.parts.now in
     let fs : List Wire = map field_view c.in_ok-fields.fields.items in
     let message : IsMessage string_keys parts fs = c.in_ok-fields.ensures.found in
-    exit_fault (TextFault parts) c.from_residual-in_err-pattern.result _
+    exit_known (TextFault parts) c.from_residual-in_err-pattern.result _
     c.from_residual-in_err-pattern.ensures.1
     (pattern_fault parts fs message _ (rw c.deref.ensures at c.in_err-pattern.ensures.fault))
 

@@ -1,22 +1,9 @@
-use Rattle.std.proofs.Common.{◌⊎◌, inl, inr, List}
-use Rattle.proto_wire.specs.Maps.{Entry, text}
-use Rattle.proto_wire.proofs.Exits.{exit_memory_or}
-use Rattle.rbac_policy.specs.Admission.{Fault, in_message}
-use Rattle.rbac_policy.specs.Fault.{FilterFault, HoldsPolicies}
-use Rattle.rbac_policy.specs.steps.Conditions.{ConditionsFault}
-use Rattle.rbac_policy.proofs.Spending.{conditions_fail}
+use Rattle.proto_wire.specs.Refusal.{MemoryOr}
+use Rattle.proto_wire.proofs.PlaceExits.{exit_unplaced}
+use Rattle.rbac_policy.specs.Admission.{Fault}
 use Rattle.rbac_policy.proofs.admission.admit.Goals as goal
 
-pub returns-in_err-rules-clause-fault : goal.returns-in_err-rules-clause-fault
-returns-in_err-rules-clause-fault c =
-    exit_memory_or (λ e. FilterFault c.args.bytes.now e ⊎ ((policies : List (Entry text)) × HoldsPolicies c.args.bytes.now policies
-    × ConditionsFault policies c.args.limits.now c.args.budget e))
-    (λ e. Fault e c.args.bytes.now c.args.limits.now c.args.budget)
-    c.from_residual.result _ c.from_residual.ensures.1 c.in_err-rules.ensures.fault
-    (λ e bad. elim bad [
-      | inl own ↦ in_message own
-      | inr (policies, holds, cost) ↦ conditions_fail c.args.bytes.now c.args.limits.now c.args.budget e policies holds cost
-    ])
-
-pub returns-clause-found : goal.returns-clause-found
-returns-clause-found c = rw c.new.ensures.filter c.in_ok-rules.ensures.found
+pub returns-in_err-admit_at-clause-fault : goal.returns-in_err-admit_at-clause-fault
+returns-in_err-admit_at-clause-fault c =
+    exit_unplaced (MemoryOr (λ e. Fault e c.args.bytes.now c.args.limits.now c.args.budget))
+    c.from_residual.result c.in_err-admit_at.field-0.0 c.from_residual.ensures.1 c.in_err-admit_at.ensures.fault

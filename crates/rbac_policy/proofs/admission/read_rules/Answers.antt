@@ -1,4 +1,4 @@
-use Rattle.std.proofs.Common.{◌≡◌, ◌<◌, ◌≤◌, ◌⊎◌, ℕ, List, T, inl, inr, map, length, sym, ap, subst, arith, ◌∙◌}
+use Rattle.std.proofs.Common.{◌≡◌, ◌<◌, ◌≤◌, ◌⊎◌, ℕ, List, T, inl, inr, map, length, refl, sym, ap, subst, arith, ◌∙◌}
 use Rattle.std.proofs.lemmas.List.{length-map}
 use Rattle.std.specs.FinMap.{FinMap, entries, entries_sorted, from_entries, is_sorted, len, len-entries}
 use Rattle.attributes.specs.Headers.{name_cmp}
@@ -7,15 +7,18 @@ use Rattle.proto_wire.specs.Fields.{Wire, field_view}
 use Rattle.proto_wire.specs.Values.{payloads}
 use Rattle.proto_wire.specs.Merge.{parts_view}
 use Rattle.proto_wire.specs.declared.refusal.Refusal.{Refusal}
-use Rattle.proto_wire.proofs.Exits.{exit_memory_or}
+use Rattle.proto_wire.specs.declared.refusal.Refusal.TheVariants.{OutOfRange, TooLarge, Unsupported}
+use Rattle.proto_wire.proofs.Exits.{memory_or_weaker}
+use Rattle.proto_wire.proofs.PlaceExits.{exit_known, exit_memory_or, exit_new_or, exit_with}
 use Rattle.rbac_policy.specs.Admitted.{filter_rules_view}
 use Rattle.rbac_policy.specs.Condition.{Program}
 use Rattle.rbac_policy.specs.Enforced.{bounds_of, total_bound}
 use Rattle.rbac_policy.specs.Filter.{Policy}
 use Rattle.rbac_policy.specs.Keys.{rules_field}
 use Rattle.rbac_policy.specs.Message.{IsPolicy, most_policies}
-use Rattle.rbac_policy.specs.Fault.{PolicyFault, RulesFault, in_policies, too_many}
+use Rattle.rbac_policy.specs.Fault.{PolicyFault, RulesFault, audited, bad_action, in_policies, too_many}
 use Rattle.rbac_policy.specs.Named.{named_views}
+use Rattle.rbac_policy.specs.Places.{FieldsOr}
 use Rattle.rbac_policy.specs.steps.Conditions.{ConditionsFault, IsEnforced}
 use Rattle.proto_wire.specs.Maps.{Entry, text, AreEntries, Readable, map_of, SomeEntryFault, SomeValueFault, in_entry, in_value}
 use Rattle.proto_wire.specs.steps.Maps.{Held}
@@ -23,6 +26,7 @@ use Rattle.proto_wire.proofs.MapLaws.{entries_readable}
 use Rattle.proto_wire.proofs.MapValues.{held_ordered, held_are_values}
 use Rattle.rbac_policy.proofs.Besides.{sorted_beside}
 use Rattle.rbac_policy.proofs.Enforcing.{apart, filter_enforced, total_of}
+use Rattle.rbac_policy.proofs.Places.{fields_at, fields_own}
 use Rattle.rbac_policy.proofs.Totality.{as_many}
 use Rattle.rbac_policy.proofs.admission.read_rules.Goals as goal
 
@@ -31,11 +35,23 @@ abbrev Fails : List Wire → LimitsValue → ℕ → Refusal → Type 0
 Fails fs limits budget e = RulesFault fs e ⊎ ((read : List (Entry text)) × Readable text (payloads rules_field.policies fs) read
     × ConditionsFault (entries (map_of text read)) limits budget e)
 
+pub returns-in_err-refuse_audit_options-clause-fault : goal.returns-in_err-refuse_audit_options-clause-fault
+returns-in_err-refuse_audit_options-clause-fault c =
+    let bad = c.in_err-refuse_audit_options.ensures.fault in
+    exit_known (Fails (map field_view c.args.fields.now) c.args.limits.now c.args.budget) c.from_residual.result
+    c.in_err-refuse_audit_options.field-0.0 c.from_residual.ensures.1 (inl (audited bad.1 bad.0.0))
+
+pub returns-in_err-action-clause-fault : goal.returns-in_err-action-clause-fault
+returns-in_err-action-clause-fault c =
+    let bad = c.in_err-action.ensures in
+    exit_known (Fails (map field_view c.args.fields.now) c.args.limits.now c.args.budget) c.from_residual-in_err-action.result
+    c.in_err-action.field-0.0 c.from_residual-in_err-action.ensures.1 (inl (bad_action bad.1 bad.0.0))
+
 pub returns-in_err-named-clause-fault : goal.returns-in_err-named-clause-fault
 returns-in_err-named-clause-fault c =
     let fs : List Wire = map field_view c.args.fields.now in
     let parts : parts_view c.deref.result.now ≡ payloads rules_field.policies fs = ap parts_view c.deref.ensures ∙ c.in_ok-entries.ensures in
-    exit_memory_or (SomeEntryFault text (payloads rules_field.policies fs)) (Fails fs c.args.limits.now c.args.budget)
+    exit_new_or (SomeEntryFault text (payloads rules_field.policies fs)) (Fails fs c.args.limits.now c.args.budget)
     c.from_residual-in_err-named.result _ c.from_residual-in_err-named.ensures.1 (rw parts at c.in_err-named.ensures.fault)
     (λ e bad. inl (in_policies (in_entry bad)))
 
@@ -50,8 +66,8 @@ returns-in_err-refuse_many-clause-fault c =
     let above : most_policies < c.len.result = bad.1 in
     let count : c.len.result ≡ length c.in_ok-named.named.items = c.len.ensures ∙ c.in_ok-named.named.ok.0 in
     let many : most_policies < len (map_of text es) = omega (arith, size, count, above) in
-    exit_memory_or F F c.from_residual-in_err-refuse_many.result _ c.from_residual-in_err-refuse_many.ensures.1
-    (inr (inl (too_many es (entries_readable text _ es read) many bad.0))) (λ e fault. fault)
+    exit_known F c.from_residual-in_err-refuse_many.result c.in_err-refuse_many.field-0.0 c.from_residual-in_err-refuse_many.ensures.1
+    (inl (too_many es (entries_readable text _ es read) many bad.0.0))
 
 pub returns-in_err-policies-clause-fault : goal.returns-in_err-policies-clause-fault
 returns-in_err-policies-clause-fault c =
@@ -62,7 +78,7 @@ returns-in_err-policies-clause-fault c =
     let readable : Readable text (payloads rules_field.policies fs) es = entries_readable text _ es read in
     exit_memory_or (λ e. SomeValueFault text PolicyFault (entries (map_of text es)) e ⊎ ConditionsFault (entries (map_of text es)) c.args.limits.now c.args.budget e)
     (Fails fs c.args.limits.now c.args.budget)
-    c.from_residual-in_err-policies.result _ c.from_residual-in_err-policies.ensures.1
+    c.from_residual-in_err-policies.result c.in_err-policies.field-0.0 c.from_residual-in_err-policies.ensures.1
     (rw (c.deref-2.ensures.value, c.in_ok-named.ensures.found.2) at c.in_err-policies.ensures.fault)
     (λ e bad. elim bad [
       | inl own ↦ inl (in_policies (in_value es readable own))
@@ -79,8 +95,8 @@ new-requires-clause-ordered c = rw c.shrink.ensures (held_ordered text (IsEnforc
 pub new-requires-clause-bounded : goal.new-requires-clause-bounded
 new-requires-clause-bounded c = rw c.shrink.ensures c.in_ok-policies.ensures.cost
 
-pub new-requires-clause-sieved : goal.new-requires-clause-sieved
-new-requires-clause-sieved c = rw c.deref-3.ensures.value at c.in_ok-sieve.ensures
+pub new-requires-clause-indexed : goal.new-requires-clause-indexed
+new-requires-clause-indexed c = rw c.deref-3.ensures.value at c.in_ok-policy_index.ensures
 
 pub returns-clause-found : goal.returns-clause-found
 returns-clause-found c =
@@ -115,3 +131,47 @@ returns-clause-cheap c =
     let cheap = c.in_ok-policies.ensures.cheap in
     let total : total_bound (filter_rules_view c.new.result) ≡ bounds_of vs = ap total_bound (rw c.shrink.ensures at c.new.ensures) ∙ sum in
     omega (arith, total, cost, cheap)
+
+pub returns-in_err-refuse_audit_options-clause-place : goal.returns-in_err-refuse_audit_options-clause-place
+returns-in_err-refuse_audit_options-clause-place c =
+    let bad = c.in_err-refuse_audit_options.ensures.fault in
+    fields_at (map field_view c.args.fields.now) rules_field.audit_logging_options Unsupported c.from_residual.result
+    c.in_err-refuse_audit_options.field-0.0 c.from_residual.ensures.1 bad.0 (audited bad.1 refl)
+
+pub returns-in_err-action-clause-place : goal.returns-in_err-action-clause-place
+returns-in_err-action-clause-place c =
+    let bad = c.in_err-action.ensures in
+    fields_at (map field_view c.args.fields.now) rules_field.action OutOfRange c.from_residual-in_err-action.result
+    c.in_err-action.field-0.0 c.from_residual-in_err-action.ensures.1 bad.0 (bad_action bad.1 refl)
+
+pub returns-in_err-named-clause-place : goal.returns-in_err-named-clause-place
+returns-in_err-named-clause-place c =
+    let fs : List Wire = map field_view c.args.fields.now in
+    let parts : parts_view c.deref.result.now ≡ payloads rules_field.policies fs = ap parts_view c.deref.ensures ∙ c.in_ok-entries.ensures in
+    fields_own fs c.from_residual-in_err-named.result _ c.from_residual-in_err-named.ensures.1
+    (memory_or_weaker (SomeEntryFault text (payloads rules_field.policies fs)) (RulesFault fs) _ (λ e bad. in_policies (in_entry bad))
+    (rw parts at c.in_err-named.ensures.fault))
+
+pub returns-in_err-refuse_many-clause-place : goal.returns-in_err-refuse_many-clause-place
+returns-in_err-refuse_many-clause-place c =
+    let fs : List Wire = map field_view c.args.fields.now in
+    let parts : parts_view c.deref.result.now ≡ payloads rules_field.policies fs = ap parts_view c.deref.ensures ∙ c.in_ok-entries.ensures in
+    let es : List (Entry text) = c.in_ok-named.ensures.found.0 in
+    let read : AreEntries text (payloads rules_field.policies fs) es = rw parts at c.in_ok-named.ensures.found.1 in
+    let size : len (map_of text es) ≡ length c.in_ok-named.named.items = len-entries (map_of text es) ∙ ap length (sym c.in_ok-named.ensures.found.2) ∙ length-map c.in_ok-named.named.items _ in
+    let bad = c.in_err-refuse_many.ensures.fault in
+    let above : most_policies < c.len.result = bad.1 in
+    let count : c.len.result ≡ length c.in_ok-named.named.items = c.len.ensures ∙ c.in_ok-named.named.ok.0 in
+    let many : most_policies < len (map_of text es) = omega (arith, size, count, above) in
+    fields_at fs rules_field.policies TooLarge c.from_residual-in_err-refuse_many.result c.in_err-refuse_many.field-0.0
+    c.from_residual-in_err-refuse_many.ensures.1 bad.0 (too_many es (entries_readable text _ es read) many refl)
+
+pub returns-in_err-policies-clause-place : goal.returns-in_err-policies-clause-place
+returns-in_err-policies-clause-place c =
+    let fs : List Wire = map field_view c.args.fields.now in
+    let parts : parts_view c.deref.result.now ≡ payloads rules_field.policies fs = ap parts_view c.deref.ensures ∙ c.in_ok-entries.ensures in
+    let es : List (Entry text) = c.in_ok-named.ensures.found.0 in
+    let read : AreEntries text (payloads rules_field.policies fs) es = rw parts at c.in_ok-named.ensures.found.1 in
+    let readable : Readable text (payloads rules_field.policies fs) es = entries_readable text _ es read in
+    exit_with (FieldsOr fs) c.from_residual-in_err-policies.result c.in_err-policies.field-0.0 c.from_residual-in_err-policies.ensures.1
+    (inr (inr (es, readable, rw (c.deref-2.ensures.value, c.in_ok-named.ensures.found.2) at c.in_err-policies.ensures.place)))

@@ -1,4 +1,4 @@
-use Rattle.std.proofs.Common.{arith, ◌≡◌, ◌+◌, ◌⊎◌, ◌++◌, ◌∷◌, [], ℕ, List, Bor, drop, take, refl, sym, ap, ◌∙◌}
+use Rattle.std.proofs.Common.{arith, ◌≡◌, ◌+◌, ◌++◌, ◌∷◌, [], ℕ, List, Bor, drop, take, refl, sym, ap, ◌∙◌}
 use Rattle.std.proofs.lemmas.List.{drop_more, map-append, map_more, take-append-drop}
 use Rattle.smallvec.specs.SmallVec.{SmallVec}
 use Rattle.proto_wire.specs.Maps.{Entry, text}

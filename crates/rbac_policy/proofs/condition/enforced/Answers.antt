@@ -7,7 +7,7 @@ use Rattle.cel_compile.specs.Codes.{code_of}
 use Rattle.cel_compile.specs.Slots.{HasFewLocals}
 use Rattle.cel_compile.proofs.Forwards.{elaborated_code_is_forward}
 use Rattle.cel_compile.proofs.Short.{fitting_code}
-use Rattle.cel_tree.proofs.GoodConstantLaws.{expr_good}
+use Rattle.cel_read.proofs.GoodConstantLaws.{expr_good}
 use Rattle.proto_wire.specs.declared.refusal.Refusal.TheVariants.{TooCostly, TooLarge}
 use Rattle.proto_wire.proofs.Exits.{exit_memory_or}
 use Rattle.stack_machine.specs.Typable.{Forward}

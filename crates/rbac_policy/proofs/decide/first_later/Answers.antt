@@ -4,7 +4,7 @@ use Rattle.std.proofs.lemmas.Result.{err_from_is_err_and}
 use Rattle.rbac_policy.specs.Named.{policy_view}
 use Rattle.rbac_policy.specs.steps.Runs.{AnyProgram, PassesBound}
 use Rattle.rbac_policy.proofs.FirstRun.{Failed, next_failed, none_first, this_first, this_asks, this_has_none}
-use Rattle.rbac_policy.proofs.SieveLemmas.{ruled_tells}
+use Rattle.rbac_policy.proofs.IndexLemmas.{ruled_tells}
 use Rattle.rbac_policy.proofs.decide.first_later.Goals as goal
 
 pub loop-number-init : goal.loop-number-init
@@ -53,4 +53,4 @@ loop-number-preserved-then-is_ruled_out c =
     let item = c.index-policies-number.result in
     next_failed r list items i item c.loop-number-test.true c.index-policies-number.is c.loop-number.invariant
     (ruled_tells r list items i item c.loop-number-test.true c.index-policies-number.is
-    (c.is_ruled_out.ensures r (map (policy_view list) items) c.requires.sieved c.if-is_ruled_out.true))
+    (c.is_ruled_out.ensures r (map (policy_view list) items) c.requires.indexed c.if-is_ruled_out.true))

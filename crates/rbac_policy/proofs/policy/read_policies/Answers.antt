@@ -1,12 +1,13 @@
-use Rattle.std.proofs.Common.{arith, ◌≡◌, ◌+◌, ◌-◌, ◌⊎◌, ◌++◌, ◌∷◌, [], ℕ, List, Bor, Some, inl, inr, drop, take, option_map, refl, sym, ap, subst, ◌∙◌}
-use Rattle.std.proofs.lemmas.List.{append-nil, drop_more, map-append, map_more, take-append-drop, take_all}
+use Rattle.std.proofs.Common.{arith, ◌≡◌, ◌+◌, ◌-◌, ◌⊎◌, ◌++◌, ◌∷◌, [], ℕ, List, Bor, Some, inl, inr, drop, length, take, option_map, refl, sym, ap, subst, ◌∙◌}
+use Rattle.std.proofs.lemmas.List.{append-nil, length-append, drop_more, map-append, map_more, take-append-drop, take_all}
 use Rattle.std.specs.Cmp.Lexicographic.{nat_list_cmp_total}
 use Rattle.std.specs.FinMap.{find}
+use Rattle.std.specs.Prelude.{slice_get}
 use Rattle.smallvec.specs.SmallVec.{SmallVec}
 use Rattle.attributes.specs.Headers.{name_cmp}
 use Rattle.proto_wire.specs.Merge.{parts_view}
 use Rattle.proto_wire.specs.Maps.{Entry, text, SomeValueFault}
-use Rattle.proto_wire.proofs.Exits.{exit_memory_or}
+use Rattle.proto_wire.proofs.PlaceExits.{exit_memory_or, exit_with}
 use Rattle.proto_wire.proofs.MapOrder.{find_at}
 use Rattle.proto_wire.proofs.MapValues.{held_push}
 use Rattle.proto_wire.specs.steps.Maps.{Held}
@@ -16,9 +17,11 @@ use Rattle.rbac_policy.specs.declared.policy.NamedPolicy.{NamedPolicy}
 use Rattle.rbac_policy.specs.Enforced.{bound_of, bounds_of}
 use Rattle.rbac_policy.specs.Fault.{PolicyFault}
 use Rattle.rbac_policy.specs.Named.{named_view, named_views, policy_view, program_view}
+use Rattle.rbac_policy.specs.Places.{PoliciesOr}
 use Rattle.rbac_policy.specs.steps.Conditions.{ConditionsFault, IsEnforced}
 use Rattle.rbac_policy.specs.steps.Named.{names_view}
 use Rattle.rbac_policy.proofs.Besides.{name_same}
+use Rattle.rbac_policy.proofs.Places.{at_map, entry_in}
 use Rattle.rbac_policy.proofs.Spending.{bounds_push, one_fails}
 use Rattle.rbac_policy.proofs.policy.read_policies.Goals as goal
 
@@ -27,7 +30,7 @@ abbrev entry_of : Bor (List ℕ) × SmallVec (Bor (List ℕ)) → Entry text
 entry_of e = (e.0.now, parts_view e.1.items)
 
 pub loop-entry-init : goal.loop-entry-init
-loop-entry-init c = rw c.in_ok-policies.ensures.items ((λ more. refl), (λ list. refl), omega arith)
+loop-entry-init c = rw c.in_ok-policies.ensures.items ((λ more. refl), (λ list. refl), omega arith, refl)
 
 pub overflow_sub-budget : goal.overflow_sub-budget
 overflow_sub-budget c = c.loop-entry.invariant.2
@@ -47,10 +50,9 @@ returns-in_err-policy-clause-fault c =
     let split : all ≡ names_view (take i named) ++ n ∷ names_view (drop (i + 1) named) =
     ap names_view (sym (take-append-drop i named) ∙ ap (λ es. take i named ++ es) rest)
     ∙ map-append entry_of (take i named) _ in
-    let fault = rw c.deref.ensures at c.in_err-policy.ensures.fault in
     exit_memory_or (λ e. PolicyFault n.1 e ⊎ ConditionsFault (n ∷ []) c.args.limits.now (c.args.budget - c.loop-entry.spent) e)
     (λ e. SomeValueFault text PolicyFault all e ⊎ ConditionsFault all c.args.limits.now c.args.budget e)
-    c.from_residual-in_err-policy.result _ c.from_residual-in_err-policy.ensures.1 fault
+    c.from_residual-in_err-policy.result c.in_err-policy.field-0.0 c.from_residual-in_err-policy.ensures.1 c.in_err-policy.ensures.fault
     (λ e bad. elim bad [
       | inl own ↦ inl (n.0, n.1, found, own)
       | inr cost ↦ inr (rw split (one_fails c.args.limits.now c.args.budget c.loop-entry.spent e (names_view (take i named)) n (names_view (drop (i + 1) named))
@@ -71,18 +73,19 @@ loop-entry-preserved c =
     let made : (list : List Token) → named_views list c.push.new.self.items ≡ named_views list before ++ (n.0, policy_view list p) ∷ [] =
     λ list. ap (named_views list) c.in_ok-push.ensures.items ∙ map-append (named_view list) before (p ∷ [])
     ∙ ap (λ x. named_views list before ++ (x, policy_view list p) ∷ []) c.in_ok-policy.ensures.named in
-    let found = rw c.deref.ensures at c.in_ok-policy.ensures.found in
+    let found = c.in_ok-policy.ensures.found in
     let cost : c.bound-spent.result ≡ bound_of (option_map program_view p.condition) = c.bound-spent.ensures in
     let spent = c.loop-entry.invariant.1 in
     let sum : (list : List Token) → bounds_of (named_views list before ++ (n.0, policy_view list p) ∷ []) ≡ bounds_of (named_views list before) + bound_of (option_map program_view p.condition) =
     λ list. bounds_push (named_views list before) n.0 (policy_view list p) in
     let cheap = c.in_ok-policy.ensures.cheap in
     let within = c.loop-entry.invariant.2 in (
-      (λ more. rw (seen, made (c.read_policy.new.list ++ more)) (held_push text (IsEnforced c.args.limits.now) _ _ n (policy_view (c.read_policy.new.list ++ more) p)
-          (stays c.loop-entry.list c.read_policy.new.list more
+      (λ more. rw (seen, made (c.read_entry.new.list ++ more)) (held_push text (IsEnforced c.args.limits.now) _ _ n (policy_view (c.read_entry.new.list ++ more) p)
+          (stays c.loop-entry.list c.read_entry.new.list more
           (λ list. Held text (IsEnforced c.args.limits.now) (names_view (take i named)) (named_views list before)) on c.loop-entry.invariant.0) (found more))),
       (λ list. let before_it = spent list in let sum_of = sum list in rw (made list) (omega (arith, before_it, cost, sum_of))),
       omega (arith, cost, cheap, within),
+      ap length c.in_ok-push.ensures.items ∙ length-append before (p ∷ []) ∙ ap (λ n. n + 1) c.loop-entry.invariant.3,
     )
 
 pub returns-clause-found : goal.returns-clause-found
@@ -95,3 +98,16 @@ returns-clause-found c =
 
 pub returns-clause-cost : goal.returns-clause-cost
 returns-clause-cost c = c.loop-entry.invariant.1 c.loop-entry.list
+
+pub returns-in_err-policy-clause-place : goal.returns-in_err-policy-clause-place
+returns-in_err-policy-clause-place c =
+    let named = c.args.named.now in
+    let i = c.loop-entry.entry-index in
+    let e = c.entry-item.result in
+    let at : slice_get (names_view named) i ≡ Some (entry_of e) =
+    at_map entry_of named i e c.loop-entry-test.true ∙ ap (λ x. Some (entry_of x)) (sym c.entry-item.is) in
+    let index : c.len.result ≡ i = c.len.ensures ∙ c.loop-entry.policies.ok.0 ∙ c.loop-entry.invariant.3 in
+    exit_with (PoliciesOr (names_view named)) c.from_residual-in_err-policy.result c.in_err-policy.field-0.0
+    c.from_residual-in_err-policy.ensures.1
+    (entry_in (names_view named) i (entry_of e) c.in_err-policy.field-0.0 at
+    (rw index at c.in_err-policy.ensures.place))

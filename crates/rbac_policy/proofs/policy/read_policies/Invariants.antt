@@ -1,4 +1,4 @@
-use Rattle.std.proofs.Common.{◌≡◌, ◌≤◌, ◌++◌, List, take}
+use Rattle.std.proofs.Common.{◌≡◌, ◌≤◌, ◌++◌, List, length, take}
 use Rattle.proto_wire.specs.Maps.{text}
 use Rattle.proto_wire.specs.steps.Maps.{Held}
 use Rattle.rbac_match.specs.Tokens.{Token}
@@ -10,4 +10,4 @@ use Rattle.rbac_policy.proofs.policy.read_policies.Given as goal
 
 abbrev pub invariant-loop-entry : goal.invariant-loop-entry
 invariant-loop-entry l = ((more : List Token) → Held text (IsEnforced l.limits) (names_view (take l.entry-index l.named)) (named_views (l.list ++ more) l.policies.items))
-    × ((list : List Token) → l.spent ≡ bounds_of (named_views list l.policies.items)) × (l.spent ≤ l.budget)
+    × ((list : List Token) → l.spent ≡ bounds_of (named_views list l.policies.items)) × (l.spent ≤ l.budget) × (length l.policies.items ≡ l.entry-index)

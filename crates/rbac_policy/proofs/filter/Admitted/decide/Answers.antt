@@ -9,7 +9,7 @@ use Rattle.rbac_policy.proofs.FirstRun.{memory_is_other}
 use Rattle.rbac_policy.proofs.filter.Admitted.decide.Goals as goal
 
 pub first_match-requires : goal.first_match-requires
-first_match-requires c = rw (c.sieve.ensures, c.list.ensures, c.named_policies.ensures) c.args.self.now.rules.sieved
+first_match-requires c = rw (c.policy_index.ensures, c.list.ensures, c.named_policies.ensures) c.args.self.now.rules.indexed
 
 pub returns-clause-found : goal.returns-clause-found
 returns-clause-found c =

@@ -1,0 +1,274 @@
+-- The fault of a part is one of the filter that has the part, and what a `?` passes on of its place.
+use Rattle.std.proofs.Common.{◌≡◌, ◌≢◌, ◌<◌, ◌⊎◌, arith, ℕ, zero, suc, List, [], ◌∷◌, Some, None, take, map, Result, Ok, Err, IfErr, inl, inr, refl, sym, ap, subst, length, get_or, ◌∙◌}
+use Rattle.std.specs.FinMap.{entries, entries_sorted, find}
+use Rattle.std.specs.Prelude.{IsErrAnd, slice_get}
+use Rattle.std.specs.Cmp.Lexicographic.{nat_list_cmp_total}
+use Rattle.std.proofs.lemmas.List.{map-id}
+use Rattle.std.proofs.lemmas.Option.{get_or_from_slice_get, slice_get_cases}
+use Rattle.std.proofs.lemmas.Result.{err_from_is_err_and}
+use Rattle.attributes.specs.Headers.{name_cmp}
+use Rattle.attributes.specs.Limits.{LimitsValue}
+use Rattle.cel_tree.specs.Message.{ArePresent}
+use Rattle.proto_wire.specs.Fields.{Wire}
+use Rattle.proto_wire.specs.Maps.{Entry, text, Readable, map_of, in_value}
+use Rattle.proto_wire.specs.Merge.{Merges}
+use Rattle.proto_wire.specs.Messages.{MessageFault}
+use Rattle.proto_wire.specs.Places.{Path, IsAt as IsOf, IsInside, FaultOr, MessagePlace, path_at, path_of}
+use Rattle.proto_wire.specs.Refusal.{MemoryOr}
+use Rattle.proto_wire.specs.Values.{payloads}
+use Rattle.proto_wire.specs.declared.key.Key.{Key}
+use Rattle.proto_wire.specs.declared.place.Step.{Step}
+use Rattle.proto_wire.specs.declared.placed.Fault.{Fault}
+use Rattle.proto_wire.specs.declared.refusal.Refusal.{Refusal}
+use Rattle.proto_wire.specs.declared.refusal.Refusal.TheVariants.{Memory, TooCostly}
+use Rattle.proto_wire.proofs.MapOrder.{find_at}
+use Rattle.proto_wire.proofs.Messages.{no_steps}
+use Rattle.proto_wire.proofs.PlaceExits.{Placed}
+use Rattle.proto_wire.proofs.Places.{has_fault as fault_of_whole, shorter as fault_of_outer, further_out}
+use Rattle.rbac_match.specs.Places as rules_of
+use Rattle.rbac_match.specs.Places.{IsAt, rule, EachOr}
+use Rattle.rbac_match.specs.declared.rule.Side.{Side}
+use Rattle.rbac_match.specs.declared.rule.Side.TheVariants.{Permission, Principal}
+use Rattle.rbac_match.proofs.Places as rule_places
+use Rattle.rbac_match.proofs.Places.{at_in}
+use Rattle.rbac_policy.specs.Fault.{PolicyFault, RulesFault, in_permission, in_principal, in_policies, in_rules, rules_fields, unreadable, untyped, not_bool}
+use Rattle.rbac_policy.specs.Keys.{filter_field, rules_field}
+use Rattle.rbac_policy.specs.Message.{condition_in, rule_depth}
+use Rattle.rbac_policy.specs.Places.{Part, of_filter, of_rules, of_policy, of_condition, in_rule, ConditionWrong, does_not_read, has_no_type, of_another_type, PartFault, side_field, condition_field, StepTo, FaultAt, OfNoPart, PlacedOr, ConditionOr, EntryOr, PoliciesOr, FieldsOr}
+use Rattle.rbac_policy.specs.steps.Conditions as step
+use Rattle.rbac_policy.specs.steps.Conditions.{ConditionFault}
+use Rattle.rbac_policy.proofs.Besides.{name_same}
+
+-- ---- outer parts
+
+-- the fault of a rule is one of its policy
+from_rule : (parts : List (List ℕ)) (fs : List Wire) (side : Side) (child : List ℕ) (i : ℕ) (e : Refusal)
+    → Merges parts fs → IsAt fs (side_field side) i child
+    → rules_of.PartFault side (rule rule_depth (child ∷ [])) e → PolicyFault parts e
+from_rule parts fs Permission child i e merges at bad =
+    in_permission fs merges (child, at_in (side_field Permission) fs i child at, bad)
+from_rule parts fs Principal child i e merges at bad =
+    in_principal fs merges (child, at_in (side_field Principal) fs i child at, bad)
+
+-- the fault of a condition is one of its policy
+from_condition : (parts : List (List ℕ)) (fs : List Wire) (e : Refusal) → Merges parts fs
+    → ArePresent (condition_in fs) → ConditionWrong (condition_in fs) e → PolicyFault parts e
+from_condition parts fs e merges there (does_not_read bad) = unreadable fs merges there bad
+from_condition parts fs e merges there (has_no_type x reads bad) =
+    untyped x (record { fs = fs; merges = merges; reads = reads }) bad
+from_condition parts fs e merges there (of_another_type x t reads typed other is) =
+    not_bool x t (record { fs = fs; merges = merges; reads = reads }) typed other is
+
+-- what stands in a map at a position is found by its name
+found_at : (read : List (Entry text)) (i : ℕ) (entry : Entry text)
+    → slice_get (entries (map_of text read)) i ≡ Some entry
+    → find name_cmp entry.0 (entries (map_of text read)) ≡ Some entry.1
+found_at read i entry at =
+    let es : List (Entry text) = entries (map_of text read) in
+    elim (slice_get_cases es i).1 [
+      | inl (x, within, some, is) ↦
+          let found = find_at name_cmp nat_list_cmp_total name_same (λ (n : Entry text). n) es i entry
+          (rw (map-id es) (entries_sorted (map_of text read))) within in
+          rw (map-id es, get_or_from_slice_get es i entry entry at) at found
+      | inr (past, none) ↦ let clash : Some entry ≡ None = sym at ∙ none in absurd cc
+    ]
+
+-- a fault of the part to which a step leads is one of the part from which it leads
+pub climb : (p q : Part) (s : Step) (e : Refusal) → StepTo p s q → PartFault q e → PartFault p e
+climb (of_filter bytes) q s e to bad =
+    let own : PartFault (of_rules (payloads filter_field.rules to.top)) e = rw (to.is) at bad in
+    elim own [
+      | inl fields ↦ rules_fields to.top to.merges to.there fields
+      | inr (fs, inner, wrong) ↦ in_rules to.top fs to.merges to.there inner wrong
+    ]
+climb (of_rules parts) q s e to bad =
+    let own : PolicyFault (to.entry).1 e = rw (to.is) at bad in
+    inr (
+      to.fs,
+      to.merges,
+      in_policies (in_value to.read to.readable
+          ((to.entry).0, (to.entry).1, found_at to.read s.position to.entry to.at, own)),
+    )
+climb (of_policy parts) q s e (fs, merges, inl to) bad =
+    from_rule parts fs to.side to.child s.position e merges to.at (rw (to.is) at bad)
+climb (of_policy parts) q s e (fs, merges, inr to) bad =
+    from_condition parts fs e merges to.there (rw (to.is) at bad)
+climb (of_condition parts) q s e to bad = absurd to
+climb (in_rule side p) q s e to bad = rule_places.climb side p to.0 s e to.1 (rw (to.2) at bad)
+
+pub has_fault : (steps : List Step) (p : Part) (e : Refusal) → FaultAt steps p e → PartFault p e
+has_fault = fault_of_whole Part StepTo PartFault climb
+
+pub shorter : (k : ℕ) (steps : List Step) (p : Part) (e : Refusal) → FaultAt steps p e → FaultAt (take k steps) p e
+shorter = fault_of_outer Part StepTo PartFault climb
+
+-- the steps in a rule are steps in its policy
+lifted : (side : Side) (steps : List Step) (p : rules_of.Part) (e : Refusal) → rules_of.FaultAt side steps p e
+    → FaultAt steps (in_rule side p) e
+lifted side [] p e bad = bad
+lifted side (s ∷ steps) p e bad = (in_rule side bad.0, (bad.0, bad.1, refl), lifted side steps bad.0 e bad.2)
+
+-- ---- exits
+
+-- out of memory, or a fault of the part
+pub or_part : (F : Refusal → Type 0) (p : Part) (e : Refusal) → ((d : Refusal) → F d → PartFault p d)
+    → MemoryOr F e → OfNoPart e ⊎ PartFault p e
+or_part F p e weaker (inl memory) = inl (inl memory)
+or_part F p e weaker (inr bad) = inr (weaker e bad)
+
+-- at a `?` on a growth of memory
+pub exit_memory : (P : Fault → Type 0) {T : Type 0} (r : Result T Fault) → IsErrAnd r (λ y. y.refusal ≡ Memory)
+    → ((f : Fault) → OfNoPart f.refusal → P f) → IfErr r P
+exit_memory P r left weaker =
+    let l = err_from_is_err_and r left in
+    rw (l.1) (weaker l.0 (inl l.2))
+
+-- a fault of a part is one after no steps
+pub here_place : (p : Part) (f : Fault) → (path_of f.place).steps ≡ [] → PartFault p f.refusal
+    → FaultAt (path_of f.place).steps p f.refusal
+here_place p f here bad = subst (λ (steps : List Step). FaultAt steps p f.refusal) (sym here) bad
+
+-- at a `?` on a callee whose fault is of the same part
+pub exit_here : (p : Part) {T : Type 0} (r : Result T Fault) (e : Fault) → IsErrAnd r (λ y. y ≡ e)
+    → (path_of e.place).steps ≡ [] → OfNoPart e.refusal ⊎ PartFault p e.refusal → IfErr r (PlacedOr p)
+exit_here p r e left here fault =
+    let l = err_from_is_err_and r left in
+    rw (l.1, l.2) (elim fault [
+      | inl no_part ↦ inl no_part
+      | inr bad ↦ inr (here_place p e here bad)
+    ])
+
+-- at a `?` on a callee without a place
+pub exit_own : (p : Part) {T : Type 0} (r : Result T Fault) (e : Refusal) → IsErrAnd r (IsOf 0 e)
+    → PartFault p e → IfErr r (PlacedOr p)
+exit_own p r e left bad =
+    let l = err_from_is_err_and r left in
+    rw (l.1) (inr (here_place p l.0 (ap (λ (path : Path). path.steps) l.2.1) (rw (l.2.0) bad)))
+
+-- the fault of a rule, as one of its policy
+pub from_side : (side : Side) (parts : List (List ℕ)) (fs : List Wire) (f : Fault) → Merges parts fs
+    → EachOr side rule_depth (side_field side) fs f → PlacedOr (of_policy parts) f
+from_side side parts fs f merges (inl memory) = inl (inl memory)
+from_side side parts fs f merges (inr (i, child, inner, at, begins, bad)) =
+    inr (further_out Part StepTo PartFault climb (side_field side) i inner (path_of f.place)
+    (of_policy parts) (in_rule side (rule rule_depth (child ∷ []))) f.refusal begins
+    (fs, merges, inl (record { side = side; child = child; at = at; number = refl; is = refl }))
+    (lifted side inner.steps (rule rule_depth (child ∷ [])) f.refusal bad))
+
+-- the fault of a condition, as one of its policy
+pub from_conditions : (parts : List (List ℕ)) (fs : List Wire) (f : Fault) → Merges parts fs → ConditionOr fs f
+    → PlacedOr (of_policy parts) f
+from_conditions parts fs f merges (inl no_part) = inl no_part
+from_conditions parts fs f merges (inr (there, wrong, begins)) =
+    inr (further_out Part StepTo PartFault climb (condition_field (condition_in fs)) 0 (path_at 0) (path_of f.place)
+    (of_policy parts) (of_condition (condition_in fs)) f.refusal begins
+    (fs, merges, inr (record { there = there; number = refl; position = refl; is = refl })) wrong)
+
+-- a policy's fault, as one of its entry
+pub entry_out : (i : ℕ) (entry : Entry text) {T : Type 0} (r s : Result T Fault)
+    → Placed rules_field.policies i r s → IfErr r (PlacedOr (of_policy entry.1)) → IfErr s (EntryOr i entry)
+entry_out i entry (Ok x) s is fault = rw is tt
+entry_out i entry (Err e) s is fault =
+    let l = err_from_is_err_and s is in
+    rw (l.1) (elim fault [
+      | inl no_part ↦ inl (rw (l.2.0) no_part)
+      | inr bad ↦ inr (path_of e.place, l.2.1, rw (l.2.0) bad)
+    ])
+
+-- the fault of an entry's policy, as one of the rules
+pub from_policies : (parts : List (List ℕ)) (fs : List Wire) (read : List (Entry text)) (f : Fault) → Merges parts fs
+    → Readable text (payloads rules_field.policies fs) read → PoliciesOr (entries (map_of text read)) f
+    → PlacedOr (of_rules parts) f
+from_policies parts fs read f merges readable (inl no_part) = inl no_part
+from_policies parts fs read f merges readable (inr (i, entry, inner, at, begins, bad)) =
+    inr (further_out Part StepTo PartFault climb rules_field.policies i inner (path_of f.place)
+    (of_rules parts) (of_policy entry.1) f.refusal begins
+    (record { fs = fs; read = read; entry = entry; merges = merges; readable = readable; at = at; number = refl; is = refl })
+    bad)
+
+-- the fault of the rules' fields, as one of the rules
+pub from_fields : (parts : List (List ℕ)) (fs : List Wire) (f : Fault) → Merges parts fs → FieldsOr fs f
+    → PlacedOr (of_rules parts) f
+from_fields parts fs f merges (inl no_part) = inl no_part
+from_fields parts fs f merges (inr (inl (bad, here))) = inr (here_place (of_rules parts) f here (inr (fs, merges, bad)))
+from_fields parts fs f merges (inr (inr (read, readable, bad))) = from_policies parts fs read f merges readable bad
+
+-- the fault of the rules, as one of the filter
+pub rules_out : (bytes : List ℕ) (top : List Wire) {T : Type 0} (r s : Result T Fault) → Merges (bytes ∷ []) top
+    → payloads filter_field.rules top ≢ [] → Placed filter_field.rules 0 r s
+    → IfErr r (PlacedOr (of_rules (payloads filter_field.rules top))) → IfErr s (PlacedOr (of_filter bytes))
+rules_out bytes top (Ok x) s merges there is fault = rw is tt
+rules_out bytes top (Err e) s merges there is fault =
+    let l = err_from_is_err_and s is in
+    rw (l.1) (elim fault [
+      | inl no_part ↦ inl (rw (l.2.0) no_part)
+      | inr bad ↦ inr (rw (l.2.0) (further_out Part StepTo PartFault climb filter_field.rules 0
+          (path_of e.place) (path_of (l.0).place) (of_filter bytes) (of_rules (payloads filter_field.rules top)) e.refusal l.2.1
+          (record { top = top; merges = merges; there = there; number = refl; position = refl; is = refl }) bad))
+    ])
+
+-- what was read without a place, as it is
+pub entry_in : (es : List (Entry text)) (i : ℕ) (entry : Entry text) (f : Fault) → slice_get es i ≡ Some entry
+    → EntryOr i entry f → PoliciesOr es f
+entry_in es i entry f at (inl no_part) = inl no_part
+entry_in es i entry f at (inr (inner, begins, bad)) = inr (i, entry, inner, at, begins, bad)
+
+-- an element of a list that was mapped
+pub at_map : {A B : Type 0} (g : A → B) (xs : List A) (i : ℕ) (d : A) → i < length xs
+    → slice_get (map g xs) i ≡ Some (g (get_or xs i d))
+at_map g [] i d within = absurd (omega (arith, within))
+at_map g (x ∷ xs) zero d within = refl
+at_map g (x ∷ xs) (suc i) d within = at_map g xs i d (omega (arith, within))
+
+-- the fault of a condition, or what it costs
+pub unfit : (limits : LimitsValue) (left : ℕ) (fs : List Wire) (e : Refusal)
+    → MemoryOr (λ d. ArePresent (condition_in fs) × ConditionFault (condition_in fs) limits left d) e
+    → MemoryOr (λ d. ArePresent (condition_in fs) × (ConditionWrong (condition_in fs) d ⊎ (d ≡ TooCostly))) e
+unfit limits left fs e (inl memory) = inl memory
+unfit limits left fs e (inr (there, step.unreadable bad)) = inr (there, inl (does_not_read bad))
+unfit limits left fs e (inr (there, step.expression x reads (step.untyped bad))) = inr (there, inl (has_no_type x reads bad))
+unfit limits left fs e (inr (there, step.expression x reads (step.not_bool t typed other is))) =
+    inr (there, inl (of_another_type x t reads typed other is))
+unfit limits left fs e (inr (there, step.expression x reads (step.too_costly cost costs above is))) = inr (there, inr is)
+
+-- a fault of a condition that was placed inside its field
+pub condition_out : (fs : List Wire) (n : ℕ) (e : Refusal) (inner outer : Fault)
+    → MemoryOr (λ d. ArePresent (condition_in fs) × (ConditionWrong (condition_in fs) d ⊎ (d ≡ TooCostly))) e
+    → n ≡ condition_field (condition_in fs) → IsOf 0 e inner → IsInside n 0 inner outer → ConditionOr fs outer
+condition_out fs n e inner outer (inl memory) number at inside = inl (inl (inside.0 ∙ at.0 ∙ memory))
+condition_out fs n e inner outer (inr (there, inr cost)) number at inside = inl (inr (inside.0 ∙ at.0 ∙ cost))
+condition_out fs n e inner outer (inr (there, inl bad)) number at inside =
+    inr (there, rw (inside.0, at.0) bad, rw (number, at.1) at inside.1)
+
+-- a fault of the fields of the rules that is of no policy
+pub fields_at : (fs : List Wire) (n : ℕ) (e : Refusal) {T : Type 0} (r : Result T Fault) (f : Fault)
+    → IsErrAnd r (λ y. y ≡ f) → IsOf n e f → RulesFault fs e → IfErr r (FieldsOr fs)
+fields_at fs n e r f left at bad =
+    let l = err_from_is_err_and r left in
+    rw (l.1, l.2) (inr (inl (rw (at.0) bad, ap (λ (path : Path). path.steps) at.1)))
+
+-- the same, of one without a place
+pub fields_own : (fs : List Wire) {T : Type 0} (r : Result T Fault) (e : Refusal) → IsErrAnd r (IsOf 0 e)
+    → MemoryOr (RulesFault fs) e → IfErr r (FieldsOr fs)
+fields_own fs r e left fault =
+    let l = err_from_is_err_and r left in
+    rw (l.1) (elim fault [
+      | inl memory ↦ inl (inl (l.2.0 ∙ memory))
+      | inr bad ↦ inr (inl (rw (l.2.0) bad, ap (λ (path : Path). path.steps) l.2.1))
+    ])
+
+-- at a `?` on a callee whose fault is of a field of the part
+pub exit_at : (p : Part) (n : ℕ) (e : Refusal) {T : Type 0} (r : Result T Fault) (f : Fault) → IsErrAnd r (λ y. y ≡ f)
+    → IsOf n e f → PartFault p e → IfErr r (PlacedOr p)
+exit_at p n e r f left at bad =
+    exit_here p r f left (ap (λ (path : Path). path.steps) at.1) (inr (rw (at.0) bad))
+
+-- the fault of a message's fields, as one of the part that is the message
+pub fields_placed : (keys : List Key) (parts : List (List ℕ)) (p : Part) {T : Type 0} (r : Result T Fault)
+    → IfErr r (FaultOr (MessageFault keys parts)) → IfErr r (MessagePlace keys parts)
+    → ((d : Refusal) → MessageFault keys parts d → PartFault p d) → IfErr r (PlacedOr p)
+fields_placed keys parts p (Ok x) fault place weaker = tt
+fields_placed keys parts p (Err f) fault place weaker = elim fault [
+  | inl memory ↦ inl (inl memory)
+  | inr bad ↦ inr (here_place p f (no_steps keys parts f place) (weaker f.refusal bad))
+]

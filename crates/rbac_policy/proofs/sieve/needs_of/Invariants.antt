@@ -1,7 +1,0 @@
-use Rattle.std.proofs.Common.{map, take}
-use Rattle.rbac_policy.specs.Named.{policy_view}
-use Rattle.rbac_policy.specs.steps.Sieve.{AreInOrder}
-use Rattle.rbac_policy.proofs.sieve.needs_of.Given as goal
-
-abbrev pub invariant-loop-policy : goal.invariant-loop-policy
-invariant-loop-policy l = AreInOrder l.most l.name (map (policy_view l.list) (take l.policy-index l.policies)) l.needs.items

@@ -1,0 +1,142 @@
+-- Where in a filter a fault is: the parts of a filter's message, and the steps to them.
+use Rattle.std.specs.Prelude.{◌≡◌, ◌≢◌, ◌⊎◌, ℕ, List, [], ◌∷◌, Some, slice_get}
+use Rattle.std.specs.FinMap.{entries}
+use Rattle.cel_tree.specs.Checked.{CelChecked}
+use Rattle.cel_tree.specs.Message.{ExprFault, ExprParts, IsExprOf, ArePresent, checked_parts, unchecked_parts}
+use Rattle.cel_types.specs.Typing.{IsTyped}
+use Rattle.cel_types.specs.TypingFaults.{CheckFault}
+use Rattle.cel_value.specs.Types.{ValueType, bool_type}
+use Rattle.proto_wire.specs.Fields.{Wire}
+use Rattle.proto_wire.specs.Maps.{Entry, text, Readable, map_of}
+use Rattle.proto_wire.specs.Merge.{Merges}
+use Rattle.proto_wire.specs.Messages.{MessageFault}
+use Rattle.proto_wire.specs.Places as places
+use Rattle.proto_wire.specs.Places.{Path, BeginsWith, path_at, path_of}
+use Rattle.proto_wire.specs.Values.{payloads}
+use Rattle.proto_wire.specs.declared.place.Step.{Step}
+use Rattle.proto_wire.specs.declared.placed.Fault.{Fault}
+use Rattle.proto_wire.specs.declared.refusal.Refusal.{Refusal}
+use Rattle.proto_wire.specs.declared.refusal.Refusal.TheVariants.{Memory, NotBool, TooCostly}
+use Rattle.rbac_match.specs.Places as rules_of
+use Rattle.rbac_match.specs.Places.{IsAt, rule}
+use Rattle.rbac_match.specs.declared.rule.Side.{Side}
+use Rattle.rbac_match.specs.declared.rule.Side.TheVariants.{Permission, Principal}
+use Rattle.rbac_policy.specs.Fault.{FilterFault, PolicyFault, RulesFault}
+use Rattle.rbac_policy.specs.Keys.{rules_keys, filter_field, rules_field, policy_field}
+use Rattle.rbac_policy.specs.Message.{condition_in, rule_depth}
+
+-- a part of a filter: its message, its rules, a policy, the condition of a policy, or a part of one of its
+-- permissions or principals; each with its payloads
+pub data Part : Type 0 where
+  of_filter : (bytes : List ℕ) → Part
+  of_rules : (parts : List (List ℕ)) → Part
+  of_policy : (parts : List (List ℕ)) → Part
+  of_condition : ExprParts → Part
+  in_rule : Side → rules_of.Part → Part
+
+-- a fault of a condition, whatever it costs
+pub data ConditionWrong (parts : ExprParts) (e : Refusal) : Type 0 where
+  does_not_read : ExprFault parts e → ConditionWrong parts e
+  has_no_type : (x : CelChecked) → IsExprOf parts x → CheckFault x e → ConditionWrong parts e
+  of_another_type : (x : CelChecked) (t : ValueType) → IsExprOf parts x → IsTyped x t → t ≢ bool_type
+      → e ≡ NotBool → ConditionWrong parts e
+
+-- a fault of a part
+abbrev pub PartFault : Part → Refusal → Type 0
+PartFault (of_filter bytes) e = FilterFault bytes e
+PartFault (of_rules parts) e =
+    MessageFault rules_keys parts e ⊎ ((fs : List Wire) × Merges parts fs × RulesFault fs e)
+PartFault (of_policy parts) e = PolicyFault parts e
+PartFault (of_condition parts) e = ConditionWrong parts e
+PartFault (in_rule side part) e = rules_of.PartFault side part e
+
+-- the field of a policy that has the rules of this side
+abbrev pub side_field : Side → ℕ
+side_field Permission = policy_field.permissions
+side_field Principal = policy_field.principals
+
+-- the field of a policy that has the condition
+abbrev pub condition_field : ExprParts → ℕ
+condition_field (checked_parts parts) = policy_field.checked_condition
+condition_field (unchecked_parts parts) = policy_field.condition
+
+-- the step leads from the fields of a policy to one of its rules
+pub record ToRule (fs : List Wire) (s : Step) (q : Part) : Type 0 where
+  pub side : Side
+  pub child : List ℕ
+  pub at : IsAt fs (side_field side) s.position child
+  pub number : s.number ≡ side_field side
+  pub is : q ≡ in_rule side (rule rule_depth (child ∷ []))
+
+-- the step leads from the fields of a policy to its condition
+pub record ToCondition (fs : List Wire) (s : Step) (q : Part) : Type 0 where
+  pub there : ArePresent (condition_in fs)
+  pub number : s.number ≡ condition_field (condition_in fs)
+  pub position : s.position ≡ 0
+  pub is : q ≡ of_condition (condition_in fs)
+
+-- the step leads from a filter's rules to a policy. Its position counts the policies in the order of their names
+pub record ToPolicy (parts : List (List ℕ)) (s : Step) (q : Part) : Type 0 where
+  pub fs : List Wire
+  pub read : List (Entry text)
+  pub entry : Entry text
+  pub merges : Merges parts fs
+  pub readable : Readable text (payloads rules_field.policies fs) read
+  pub at : slice_get (entries (map_of text read)) s.position ≡ Some entry
+  pub number : s.number ≡ rules_field.policies
+  pub is : q ≡ of_policy entry.1
+
+-- the step leads from a filter's message to its rules, whose payloads merge
+pub record ToRules (bytes : List ℕ) (s : Step) (q : Part) : Type 0 where
+  pub top : List Wire
+  pub merges : Merges (bytes ∷ []) top
+  pub there : payloads filter_field.rules top ≢ []
+  pub number : s.number ≡ filter_field.rules
+  pub position : s.position ≡ 0
+  pub is : q ≡ of_rules (payloads filter_field.rules top)
+
+-- the step leads from a part to this part in it
+abbrev pub StepTo : Part → Step → Part → Type 0
+StepTo (of_filter bytes) s q = ToRules bytes s q
+StepTo (of_rules parts) s q = ToPolicy parts s q
+StepTo (of_policy parts) s q = (fs : List Wire) × Merges parts fs × (ToRule fs s q ⊎ ToCondition fs s q)
+StepTo (of_condition parts) s q = ⊥
+StepTo (in_rule side p) s q = (r : rules_of.Part) × rules_of.StepTo side p s r × (q ≡ in_rule side r)
+
+-- the part to which the steps lead has the fault
+abbrev pub FaultAt : List Step → Part → Refusal → Type 0
+FaultAt = places.FaultAt StepTo PartFault
+
+-- a refusal that is of no part by itself: memory, or the cost of all conditions together
+abbrev pub OfNoPart : Refusal → Type 0
+OfNoPart e = (e ≡ Memory) ⊎ (e ≡ TooCostly)
+
+-- a refusal that is of no part, or the fault at its place
+abbrev pub PlacedOr : Part → Fault → Type 0
+PlacedOr p fault = OfNoPart fault.refusal ⊎ FaultAt (path_of fault.place).steps p fault.refusal
+
+-- the same for a condition in the fields of a policy; the first step names its field
+abbrev pub ConditionOr : List Wire → Fault → Type 0
+ConditionOr fs fault = OfNoPart fault.refusal
+    ⊎ (ArePresent (condition_in fs) × ConditionWrong (condition_in fs) fault.refusal
+    × BeginsWith (condition_field (condition_in fs)) 0 (path_at 0) (path_of fault.place))
+
+-- the same for one of the entries of a map of policies; the first step names it
+abbrev pub EntryOr : ℕ → Entry text → Fault → Type 0
+EntryOr position entry fault = OfNoPart fault.refusal
+    ⊎ ((inner : Path) × BeginsWith rules_field.policies position inner (path_of fault.place)
+    × FaultAt inner.steps (of_policy entry.1) fault.refusal)
+
+-- the same for some entry
+abbrev pub PoliciesOr : List (Entry text) → Fault → Type 0
+PoliciesOr es fault = OfNoPart fault.refusal
+    ⊎ ((position : ℕ) × (entry : Entry text) × (inner : Path) × (slice_get es position ≡ Some entry)
+    × BeginsWith rules_field.policies position inner (path_of fault.place)
+    × FaultAt inner.steps (of_policy entry.1) fault.refusal)
+
+-- the same for the fields of a filter's rules: the fault is of the rules themselves, or of one of the policies
+abbrev pub FieldsOr : List Wire → Fault → Type 0
+FieldsOr fs fault = OfNoPart fault.refusal
+    ⊎ (RulesFault fs fault.refusal × ((path_of fault.place).steps ≡ []))
+    ⊎ ((read : List (Entry text)) × Readable text (payloads rules_field.policies fs) read
+    × PoliciesOr (entries (map_of text read)) fault)
