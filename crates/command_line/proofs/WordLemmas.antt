@@ -1,5 +1,5 @@
 -- From what a parse says of a subcommand to the job that it names.
-use Rattle.std.proofs.Common.{◌≡◌, ◌∙◌, ◌↔◌, ℕ, List, Bool, true, false, IsTrue, Option, Some, None, String, Global, ap, codes, refl, sym}
+use Rattle.std.proofs.Common.{◌≡◌, ◌∙◌, ◌↔◌, List, Bool, true, false, IsTrue, Option, Some, None, String, Global, ap, codes, refl, sym}
 use Rattle.std.specs.Prelude.{IfNone, option_map}
 use Rattle.std.proofs.lemmas.Bool.{false≢true}
 use Rattle.std.specs.Str.{bytes_eq}
@@ -10,13 +10,15 @@ use Rattle.clap.specs.declared.parser.matches.ArgMatches.TheViews.{out-ArgMatche
 use Rattle.command_line.specs.declared.words.Job.{Job}
 use Rattle.command_line.specs.declared.words.Job.TheVariants.{Batch, Check, CheckConfig, Control, Judge, Proxy, Replay, Serve}
 use Rattle.command_line.specs.declared.words.BatchWords.{BatchWords}
+use Rattle.command_line.specs.declared.words.CheckWords.{CheckWords}
+use Rattle.command_line.specs.declared.words.JudgeWords.{JudgeWords}
 use Rattle.command_line.specs.declared.control_words.ControlWords.{ControlWords}
 use Rattle.command_line.specs.declared.words.ProxyWords.{ProxyWords}
 use Rattle.command_line.specs.declared.words.ReplayWords.{ReplayWords}
 use Rattle.command_line.specs.declared.words.ServeWords.{ServeWords}
 use Rattle.command_line.specs.declared.control_words.SnapshotFiles.{SnapshotFiles}
 use Rattle.command_line.specs.declared.control_words.SnapshotFiles.TheVariants.{Filters, Responses}
-use Rattle.command_line.specs.Words.{AreFilesOfRows, AreWhole, IsJobOf, IsJobOfRows, IsRunnable, NamesNoJob, subcommand_name}
+use Rattle.command_line.specs.Words.{AreFilesOfRows, AreWhole, IsJobOfRows, IsRunnable, NamesNoJob, subcommand_name}
 
 -- texts that a test tells apart differ
 pub apart : (a b : Text) → bytes_eq a b ≡ false → a ≡ b → ⊥
@@ -24,9 +26,9 @@ apart a b differ same = false≢true (sym differ ∙ ap (λ t. bytes_eq t b) sam
 
 -- what holds of each job of a subcommand
 module _ (P : Job → Type 0) where
-  pub of_check : ((policy : String Global) (budget : ℕ) (json : Bool) → P (Check policy budget json)) → (job : Job) → subcommand_name job ≡ codes "check" → P job
-  of_check f (Check policy budget json) same = f policy budget json
-  of_check f (Judge policy facts budget json explain) same = absurd (apart (codes "judge") (codes "check") refl same)
+  pub of_check : ((words : CheckWords) → P (Check words)) → (job : Job) → subcommand_name job ≡ codes "check" → P job
+  of_check f (Check words) same = f words
+  of_check f (Judge words) same = absurd (apart (codes "judge") (codes "check") refl same)
   of_check f (Batch words) same = absurd (apart (codes "judge") (codes "check") refl same)
   of_check f (CheckConfig config) same = absurd (apart (codes "check-config") (codes "check") refl same)
   of_check f (Replay words) same = absurd (apart (codes "replay") (codes "check") refl same)
@@ -34,9 +36,9 @@ module _ (P : Job → Type 0) where
   of_check f (Proxy words) same = absurd (apart (codes "proxy") (codes "check") refl same)
   of_check f (Serve words) same = absurd (apart (codes "serve") (codes "check") refl same)
 
-  pub of_judge : ((policy : String Global) (facts : Option (String Global)) (budget : ℕ) (json explain : Bool) → P (Judge policy facts budget json explain)) → ((words : BatchWords) → P (Batch words)) → (job : Job) → subcommand_name job ≡ codes "judge" → P job
-  of_judge f g (Check policy budget json) same = absurd (apart (codes "check") (codes "judge") refl same)
-  of_judge f g (Judge policy facts budget json explain) same = f policy facts budget json explain
+  pub of_judge : ((words : JudgeWords) → P (Judge words)) → ((words : BatchWords) → P (Batch words)) → (job : Job) → subcommand_name job ≡ codes "judge" → P job
+  of_judge f g (Check words) same = absurd (apart (codes "check") (codes "judge") refl same)
+  of_judge f g (Judge words) same = f words
   of_judge f g (Batch words) same = g words
   of_judge f g (CheckConfig config) same = absurd (apart (codes "check-config") (codes "judge") refl same)
   of_judge f g (Replay words) same = absurd (apart (codes "replay") (codes "judge") refl same)
@@ -45,8 +47,8 @@ module _ (P : Job → Type 0) where
   of_judge f g (Serve words) same = absurd (apart (codes "serve") (codes "judge") refl same)
 
   pub of_check_config : ((config : String Global) → P (CheckConfig config)) → (job : Job) → subcommand_name job ≡ codes "check-config" → P job
-  of_check_config f (Check policy budget json) same = absurd (apart (codes "check") (codes "check-config") refl same)
-  of_check_config f (Judge policy facts budget json explain) same = absurd (apart (codes "judge") (codes "check-config") refl same)
+  of_check_config f (Check words) same = absurd (apart (codes "check") (codes "check-config") refl same)
+  of_check_config f (Judge words) same = absurd (apart (codes "judge") (codes "check-config") refl same)
   of_check_config f (Batch words) same = absurd (apart (codes "judge") (codes "check-config") refl same)
   of_check_config f (CheckConfig config) same = f config
   of_check_config f (Replay words) same = absurd (apart (codes "replay") (codes "check-config") refl same)
@@ -55,8 +57,8 @@ module _ (P : Job → Type 0) where
   of_check_config f (Serve words) same = absurd (apart (codes "serve") (codes "check-config") refl same)
 
   pub of_replay : ((words : ReplayWords) → P (Replay words)) → (job : Job) → subcommand_name job ≡ codes "replay" → P job
-  of_replay f (Check policy budget json) same = absurd (apart (codes "check") (codes "replay") refl same)
-  of_replay f (Judge policy facts budget json explain) same = absurd (apart (codes "judge") (codes "replay") refl same)
+  of_replay f (Check words) same = absurd (apart (codes "check") (codes "replay") refl same)
+  of_replay f (Judge words) same = absurd (apart (codes "judge") (codes "replay") refl same)
   of_replay f (Batch words) same = absurd (apart (codes "judge") (codes "replay") refl same)
   of_replay f (CheckConfig config) same = absurd (apart (codes "check-config") (codes "replay") refl same)
   of_replay f (Replay words) same = f words
@@ -65,8 +67,8 @@ module _ (P : Job → Type 0) where
   of_replay f (Serve words) same = absurd (apart (codes "serve") (codes "replay") refl same)
 
   pub of_control : ((words : ControlWords) → P (Control words)) → (job : Job) → subcommand_name job ≡ codes "control" → P job
-  of_control f (Check policy budget json) same = absurd (apart (codes "check") (codes "control") refl same)
-  of_control f (Judge policy facts budget json explain) same = absurd (apart (codes "judge") (codes "control") refl same)
+  of_control f (Check words) same = absurd (apart (codes "check") (codes "control") refl same)
+  of_control f (Judge words) same = absurd (apart (codes "judge") (codes "control") refl same)
   of_control f (Batch words) same = absurd (apart (codes "judge") (codes "control") refl same)
   of_control f (CheckConfig config) same = absurd (apart (codes "check-config") (codes "control") refl same)
   of_control f (Replay words) same = absurd (apart (codes "replay") (codes "control") refl same)
@@ -75,8 +77,8 @@ module _ (P : Job → Type 0) where
   of_control f (Serve words) same = absurd (apart (codes "serve") (codes "control") refl same)
 
   pub of_proxy : ((words : ProxyWords) → P (Proxy words)) → (job : Job) → subcommand_name job ≡ codes "proxy" → P job
-  of_proxy f (Check policy budget json) same = absurd (apart (codes "check") (codes "proxy") refl same)
-  of_proxy f (Judge policy facts budget json explain) same = absurd (apart (codes "judge") (codes "proxy") refl same)
+  of_proxy f (Check words) same = absurd (apart (codes "check") (codes "proxy") refl same)
+  of_proxy f (Judge words) same = absurd (apart (codes "judge") (codes "proxy") refl same)
   of_proxy f (Batch words) same = absurd (apart (codes "judge") (codes "proxy") refl same)
   of_proxy f (CheckConfig config) same = absurd (apart (codes "check-config") (codes "proxy") refl same)
   of_proxy f (Replay words) same = absurd (apart (codes "replay") (codes "proxy") refl same)
@@ -85,8 +87,8 @@ module _ (P : Job → Type 0) where
   of_proxy f (Serve words) same = absurd (apart (codes "serve") (codes "proxy") refl same)
 
   pub of_serve : ((words : ServeWords) → P (Serve words)) → (job : Job) → subcommand_name job ≡ codes "serve" → P job
-  of_serve f (Check policy budget json) same = absurd (apart (codes "check") (codes "serve") refl same)
-  of_serve f (Judge policy facts budget json explain) same = absurd (apart (codes "judge") (codes "serve") refl same)
+  of_serve f (Check words) same = absurd (apart (codes "check") (codes "serve") refl same)
+  of_serve f (Judge words) same = absurd (apart (codes "judge") (codes "serve") refl same)
   of_serve f (Batch words) same = absurd (apart (codes "judge") (codes "serve") refl same)
   of_serve f (CheckConfig config) same = absurd (apart (codes "check-config") (codes "serve") refl same)
   of_serve f (Replay words) same = absurd (apart (codes "replay") (codes "serve") refl same)
@@ -129,9 +131,9 @@ pub no_subcommand : (m : ArgMatches) → (subcommand_name_of m ≡ Some (codes "
     → (subcommand_name_of m ≡ Some (codes "control") → false ≡ true)
     → (subcommand_name_of m ≡ Some (codes "proxy") → false ≡ true)
     → (subcommand_name_of m ≡ Some (codes "serve") → false ≡ true) → NamesNoJob (subcommand_rows_of m)
-no_subcommand m check judge check_config replay control proxy serve (Check policy budget json) held =
+no_subcommand m check judge check_config replay control proxy serve (Check words) held =
     false≢true (check (name_of_rows m (codes "check") held.0 held.1))
-no_subcommand m check judge check_config replay control proxy serve (Judge policy facts budget json explain) held =
+no_subcommand m check judge check_config replay control proxy serve (Judge words) held =
     false≢true (judge (name_of_rows m (codes "judge") held.0 held.1))
 no_subcommand m check judge check_config replay control proxy serve (Batch words) held =
     false≢true (judge (name_of_rows m (codes "judge") held.0 held.1))
@@ -168,8 +170,8 @@ whole rows (Responses files) given = tt
 
 -- a job that the matches of a subcommand name can be run
 pub runnable : (rows : List Row) (job : Job) → IsJobOfRows rows job → IsRunnable job
-runnable rows (Check policy budget json) held = tt
-runnable rows (Judge policy facts budget json explain) held = tt
+runnable rows (Check of_words) held = tt
+runnable rows (Judge of_words) held = tt
 runnable rows (Batch of_words) held = tt
 runnable rows (CheckConfig config) held = tt
 runnable rows (Replay of_words) held = tt

@@ -228,13 +228,12 @@ AreWhole (Responses files) = ⊤
 
 -- the matches of the job's subcommand have the values of the job
 abbrev pub IsJobOfRows : List Row → Job → Type 0
-IsJobOfRows rows (Check policy budget json) = (first_of (codes "policy") rows ≡ Some (string_bytes policy))
-    × IsBudgetOf rows budget × HasFlag (codes "json") rows json
-IsJobOfRows rows (Judge policy facts budget json explain) =
-    (first_of (codes "policy") rows ≡ Some (string_bytes policy))
-    × (first_of (codes "facts") rows ≡ option_map string_bytes facts)
-    × IsBudgetOf rows budget × HasFlag (codes "json") rows json
-    × HasFlag (codes "explain") rows explain × HasFlag (codes "batch") rows false
+IsJobOfRows rows (Check words) = (first_of (codes "policy") rows ≡ Some (string_bytes words.policy))
+    × IsBudgetOf rows words.budget × HasFlag (codes "json") rows words.json
+IsJobOfRows rows (Judge words) = (first_of (codes "policy") rows ≡ Some (string_bytes words.policy))
+    × (first_of (codes "facts") rows ≡ option_map string_bytes words.facts)
+    × IsBudgetOf rows words.budget × HasFlag (codes "json") rows words.json
+    × HasFlag (codes "explain") rows words.explain × HasFlag (codes "batch") rows false
 IsJobOfRows rows (Batch words) = (first_of (codes "policy") rows ≡ Some (string_bytes words.policy))
     × (first_of (codes "facts") rows ≡ option_map string_bytes words.facts)
     × IsBudgetOf rows words.budget × HasFlag (codes "json") rows words.json
@@ -256,8 +255,8 @@ IsJobOfRows rows (Proxy words) = (first_of (codes "config") rows ≡ Some (strin
 
 -- the name of the job's subcommand
 abbrev pub subcommand_name : Job → Text
-subcommand_name (Check policy budget json) = codes "check"
-subcommand_name (Judge policy facts budget json explain) = codes "judge"
+subcommand_name (Check words) = codes "check"
+subcommand_name (Judge words) = codes "judge"
 subcommand_name (Batch words) = codes "judge"
 subcommand_name (CheckConfig config) = codes "check-config"
 subcommand_name (Replay words) = codes "replay"
@@ -269,24 +268,6 @@ subcommand_name (Proxy words) = codes "proxy"
 abbrev pub IsRunnable : Job → Type 0
 IsRunnable (Control words) = AreWhole words.snapshots
 IsRunnable _ = ⊤
-
--- the job has a report, which is printed
-abbrev pub IsReported : Job → Type 0
-IsReported (Check policy budget json) = ⊤
-IsReported (Judge policy facts budget json explain) = ⊤
-IsReported _ = ⊥
-
--- whether the job prints its outcome as JSON
-abbrev pub is_json : Job → Bool
-is_json (Check policy budget json) = json
-is_json (Judge policy facts budget json explain) = json
-is_json _ = false
-
--- whether the job shows the policies that were tried
-abbrev pub is_explained : Job → Bool
-is_explained (Check policy budget json) = false
-is_explained (Judge policy facts budget json explain) = explain
-is_explained _ = false
 
 -- the subcommand that was found, with its matches, names this job
 abbrev pub IsJobOfNamed : Option (Text × List Row) → Job → Type 0

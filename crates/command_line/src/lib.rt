@@ -7,4 +7,6 @@ mod help;
 mod words;
 
 pub use control_words::{ControlWords, SnapshotFiles};
-pub use words::{BatchWords, Job, ProxyWords, ReplayWords, ServeWords, read_words};
+pub use words::{
+    BatchWords, CheckWords, Job, JudgeWords, ProxyWords, ReplayWords, ServeWords, read_words,
+};

@@ -26,28 +26,10 @@ const NUMBER_FAULT: &str =
 #[derive(Drop)]
 pub enum Job {
     /// `check --policy FILE [--budget N] [--json]`: checks whether a policy file is admitted.
-    Check {
-        /// The path of the policy file.
-        policy: String,
-        /// The budget of the policy's conditions in steps, from 1 to `MOST_BUDGET`.
-        budget: u64,
-        /// Whether the outcome is printed as JSON.
-        json: bool,
-    },
+    Check(CheckWords),
     /// `judge --policy FILE [--facts FILE] [--budget N] [--json] [--explain]`: judges the head on standard input by a
     /// policy file.
-    Judge {
-        /// The path of the policy file.
-        policy: String,
-        /// The path of the file with the facts of the connection, if there is one.
-        facts: Option<String>,
-        /// The budget of the policy's conditions in steps, from 1 to `MOST_BUDGET`.
-        budget: u64,
-        /// Whether the outcome is printed as JSON.
-        json: bool,
-        /// Whether the policies that were tried are shown.
-        explain: bool,
-    },
+    Judge(JudgeWords),
     /// `judge --batch` with the other words of `judge`: judges the heads in the lines of standard input.
     Batch(BatchWords),
     /// `check-config --config FILE`: prints the meaning of a configuration.
@@ -65,6 +47,32 @@ pub enum Job {
     Proxy(ProxyWords),
     /// `serve --config FILE [--check]`: serves connections until it is to end.
     Serve(ServeWords),
+}
+
+/// What is checked, and how the outcome is printed.
+#[derive(Drop)]
+pub struct CheckWords {
+    /// The path of the policy file.
+    pub policy: String,
+    /// The budget of the policy's conditions in steps, from 1 to `MOST_BUDGET`.
+    pub budget: u64,
+    /// Whether the outcome is printed as JSON.
+    pub json: bool,
+}
+
+/// By what a head is judged, and how the outcome is printed.
+#[derive(Drop)]
+pub struct JudgeWords {
+    /// The path of the policy file.
+    pub policy: String,
+    /// The path of the file with the facts of the connection, if there is one.
+    pub facts: Option<String>,
+    /// The budget of the policy's conditions in steps, from 1 to `MOST_BUDGET`.
+    pub budget: u64,
+    /// Whether the outcome is printed as JSON.
+    pub json: bool,
+    /// Whether the policies that were tried are shown.
+    pub explain: bool,
 }
 
 /// By what a batch is judged, and how it is answered.
@@ -186,11 +194,11 @@ fn check_job(alloc: Global, matches: &ArgMatches<'_>) -> Result<Option<Job>, All
     };
     let policy = String::from_str(alloc, path)?;
     let json = has_flag(matches, "json");
-    Ok(Some(Job::Check {
+    Ok(Some(Job::Check(CheckWords {
         policy,
         budget,
         json,
-    }))
+    })))
 }
 
 /// The job of the subcommand `judge`, if its values are present and its budget is allowed.
@@ -220,13 +228,13 @@ fn judge_job(alloc: Global, matches: &ArgMatches<'_>) -> Result<Option<Job>, All
             explain,
         })));
     }
-    Ok(Some(Job::Judge {
+    Ok(Some(Job::Judge(JudgeWords {
         policy,
         facts,
         budget,
         json,
         explain,
-    }))
+    })))
 }
 
 /// Whether this flag was given.

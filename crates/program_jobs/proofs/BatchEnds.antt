@@ -21,7 +21,6 @@ use Rattle.rbac_judge.specs.declared.json.Why.{Why}
 use Rattle.rbac_judge.specs.declared.outcome.Outcome.TheVariants as outcomes
 use Rattle.rbac_judge.specs.declared.outcome.Report.{Report}
 use Rattle.command_line.specs.declared.words.BatchWords.{BatchWords}
-use Rattle.command_line.specs.declared.words.Job.TheVariants.{Judge}
 
 -- nothing before an input
 prepend_none : (known : Option (List ℕ)) → prepend_known [] known ≡ known
@@ -77,8 +76,8 @@ module _ (holds : List ℕ → List ℕ → Type 0) (lacks : (List ℕ × IoErro
       → IsNoBatch holds lacks input out out_new errors errors_new status words ended
   no_batch_of fault ended (inl none) memory others = rw (memory none) (refl, inl refl)
   no_batch_of fault ended (inr stops) memory others =
-      let job = Judge words.policy words.facts words.budget words.json words.explain in
-      rw (others (λ none. never_by_memory holds lacks input job (rw none at stops))) stops
+      let never = never_by_memory holds lacks input (string_bytes words.policy) (option_map string_bytes words.facts) words.budget in
+      rw (others (λ none. never (rw none at stops))) stops
 
   -- the policy is refused
   pub ends_of_refusal : (policy : List ℕ) (reason : Refusal) → holds (string_bytes words.policy) policy

@@ -1,30 +1,27 @@
 -- What a run comes to, by what was printed of it.
-use Rattle.std.proofs.Common.{◌≡◌, ◌≢◌, ◌⊎◌, ◌↔◌, ℕ, List, Option, Result, Ok, Err, IfErr, IfOk, IsTrue, true, false, ap, inl, inr, refl, option_map, string_bytes}
-use Rattle.std.proofs.lemmas.Bool.{false≢true}
+use Rattle.std.proofs.Common.{◌≡◌, ◌≢◌, ◌⊎◌, ◌↔◌, ℕ, Bool, List, Option, Result, Ok, Err, IfErr, IfOk, IsTrue, true, false, ap, inl, inr, refl, option_map, string_bytes}
 use Rattle.std.specs.declared.io.Error.{Error as IoError}
 use Rattle.rbac_judge.proofs.JudgeLemmas.{less_found}
 use Rattle.rbac_judge.specs.Explain.{IsGiven}
 use Rattle.rbac_judge.specs.Judging.{IsDecision}
 use Rattle.program_jobs.specs.steps.Ending.{EndsResult}
 use Rattle.rbac_judge.specs.steps.Printed.{IsPrintedFor, less_told, told_with}
-use Rattle.program_jobs.specs.Jobs.{ComesTo, EndsConfig, EndsControl, EndsProxy, EndsReplay, EndsReport, Finds, IsStoppedBy, LacksConfig, LeavesFault, LeavesObject, StopsBy, StopsControl, StopsProxy}
+use Rattle.program_jobs.specs.Jobs.{ChecksTo, EndsConfig, EndsControl, EndsProxy, EndsReplay, EndsReport, IsCheckedAs, IsJudgedAs, IsUnread, JudgesTo, LacksConfig, LeavesFault, LeavesObject, StopsBy, StopsControl, StopsProxy}
 use Rattle.stream_pumps.specs.Rounds.{Link}
-use Rattle.command_line.specs.Words.{is_explained, is_json}
 use Rattle.rbac_judge.specs.steps.Judged.{bare, report_with}
 use Rattle.program_jobs.specs.steps.Stopping.{MemoryOrStop}
 use Rattle.rbac_judge.specs.declared.explain.Explanation.{Explanation}
 use Rattle.rbac_judge.specs.declared.explain.Explanation.TheVariants as explanations
 use Rattle.rbac_judge.specs.declared.json.Why.{Why}
 use Rattle.rbac_judge.specs.declared.judge.Finding.{Finding}
-use Rattle.rbac_judge.specs.declared.outcome.Outcome.{Outcome}
 use Rattle.rbac_judge.specs.declared.outcome.Outcome.TheVariants as outcomes
 use Rattle.rbac_judge.specs.declared.outcome.Report.{Report}
 use Rattle.program_jobs.specs.declared.job_fault.JobFault.{JobFault}
 use Rattle.program_jobs.specs.declared.job_fault.JobFault.TheVariants as faults
 use Rattle.command_line.specs.declared.control_words.ControlWords.{ControlWords}
-use Rattle.command_line.specs.declared.words.Job.{Job}
+use Rattle.command_line.specs.declared.words.CheckWords.{CheckWords}
+use Rattle.command_line.specs.declared.words.JudgeWords.{JudgeWords}
 use Rattle.command_line.specs.declared.words.ProxyWords.{ProxyWords}
-use Rattle.command_line.specs.declared.words.Job.TheVariants.{Batch, Check, CheckConfig, Control, Judge, Proxy, Replay, Serve}
 
 -- nothing is given of what is no verdict
 nothing_given : {A : Type 0} → ⊥ ↔ (A × ⊥)
@@ -36,96 +33,117 @@ less_given explanations.Absent = (λ g. g, λ g. g)
 less_given (explanations.Trials trials) = (λ g. g, λ g. g)
 less_given (explanations.Untold cause) = (λ g. g, λ g. g)
 
--- a check gives no explanation
-pub none_given : (found : Result Finding JobFault) → IfOk found (λ f. f ≡ bare f.outcome)
-    → IfOk found (λ f. IsGiven f.explanation ↔ (IsTrue false × IsDecision f.outcome))
-none_given (Ok f) is =
+-- a bare finding has no explanation
+none_given : (f : Finding) → f ≡ bare f.outcome → ¬ (IsGiven f.explanation)
+none_given f is =
     let absent : f.explanation ≡ explanations.Absent = ap (λ (x : Finding). x.explanation) is in
-    rw absent (λ g. absurd g, λ p. absurd (false≢true p.0))
-none_given (Err e) is = tt
+    rw absent (λ g. g)
+
+module _ (out out_new errors errors_new : Option (List ℕ)) (status : ℕ) (json : Bool)
+    (Comes : Result Report JobFault → Type 0) where
+  -- the job ends with its result as it was printed
+  end_of_result : ((report printed : Report) (why : Why) → Comes (Ok report)
+      → IsPrintedFor (told_with why report) printed → Comes (Ok printed))
+      → (found : Result Report JobFault) → Comes found
+      → EndsResult out out_new errors errors_new status json found
+      → EndsReport out out_new errors errors_new status json Comes
+  end_of_result same (Ok report) comes ends =
+      EndsReport.ended (Ok ends.printed) (same report ends.printed ends.why comes ends.same) ends.left
+  end_of_result same (Err fault) comes (inl left) = EndsReport.ended (Err fault) comes left
+  end_of_result same (Err fault) comes (inr none) = EndsReport.memory none
+
+module _ (holds : List ℕ → List ℕ → Type 0) (lacks : (List ℕ × IoError) → Type 0) where
+  -- the check comes to the report of what it finds
+  pub checks_to : (words : CheckWords) (found : Result Finding JobFault) (ended : Result Report JobFault)
+      → IfOk found (λ f. IsCheckedAs holds lacks (string_bytes words.policy) words.budget f.outcome)
+      → IfOk found (λ f. f ≡ bare f.outcome)
+      → IfErr found (MemoryOrStop (IsUnread holds lacks (string_bytes words.policy)))
+      → IfOk found (λ f. ended ≡ Ok (report_with words.json f))
+      → (found ≡ Err faults.Memory → ended ≡ Ok (report_with words.json (bare outcomes.Memory)))
+      → IfErr found (λ e. e ≢ faults.Memory → ended ≡ Err e)
+      → ChecksTo holds lacks words ended
+  checks_to words (Ok f) ended finds is stops kept memory others = rw kept (refl, none_given f is, inr finds)
+  checks_to words (Err e) ended finds is (inl none) kept memory others =
+      rw (memory (ap Err none)) (refl, (λ g. g), inl refl)
+  checks_to words (Err e) ended finds is (inr unread) kept memory others =
+      rw (others (λ none. rw none at unread)) unread
+
+  -- and to what is printed of that report
+  checks_as : (words : CheckWords) (report printed : Report) (why : Why) → ChecksTo holds lacks words (Ok report)
+      → IsPrintedFor (told_with why report) printed → ChecksTo holds lacks words (Ok printed)
+  checks_as words report printed why comes (inl same) = rw same comes
+  checks_as words report printed why (json, none, finds) (inr (inl less)) =
+      rw less (json, (λ g. none ((less_given report.explanation).0 g)), finds)
+  checks_as words report printed why (json, none, finds) (inr (inr out_of)) = rw out_of (json, (λ g. g), inl refl)
+
+  module _ (out out_new errors errors_new : Option (List ℕ)) (status : ℕ) where
+    -- the check ends with what it comes to, as it was printed
+    pub end_of_check : (words : CheckWords) (found : Result Report JobFault) → ChecksTo holds lacks words found
+        → EndsResult out out_new errors errors_new status words.json found
+        → EndsReport out out_new errors errors_new status words.json (ChecksTo holds lacks words)
+    end_of_check words found comes ends =
+        end_of_result out out_new errors errors_new status words.json (ChecksTo holds lacks words) (checks_as words) found
+        comes ends
 
 module _ (holds : List ℕ → List ℕ → Type 0) (lacks : (List ℕ × IoError) → Type 0) (input : Option (List ℕ)) where
-  -- running out of memory stops no job: it is an outcome
-  pub never_by_memory : (job : Job) → ¬ (IsStoppedBy holds lacks input job faults.Memory)
-  never_by_memory (Check policy budget json) unread = unread
-  never_by_memory (CheckConfig config) never = never
-  never_by_memory (Replay config) never = never
-  never_by_memory (Control words) never = never
-  never_by_memory (Proxy words) never = never
-  never_by_memory (Serve words) never = never
-  never_by_memory (Batch words) never = never
-  never_by_memory (Judge policy facts budget json explain) stops = elim stops [
+  -- running out of memory stops no judgement: it is an outcome
+  pub never_by_memory : (policy : List ℕ) (facts : Option (List ℕ)) (budget : ℕ)
+      → ¬ (StopsBy holds lacks policy facts budget input faults.Memory)
+  never_by_memory policy facts budget stops = elim stops [
     | StopsBy.no_policy unread ↦ unread
     | StopsBy.no_facts policy path read named unread ↦ unread
     | StopsBy.bad_facts policy path read named bad ↦ let differ = bad.3 in cc
     | StopsBy.no_input policy facts read conn admits fails ↦ fails
   ]
 
-  -- the job comes to the report of what it finds
-  pub comes_to : (job : Job) (found : Result Finding JobFault) (ended : Result Report JobFault)
-      → IfOk found (λ f. Finds holds lacks input job (option_map string_bytes f.name) f.explanation f.outcome)
-      → IfOk found (λ f. IsGiven f.explanation ↔ (IsTrue (is_explained job) × IsDecision f.outcome))
-      → IfErr found (λ e. (e ≡ faults.Memory) ⊎ IsStoppedBy holds lacks input job e)
-      → IfOk found (λ f. ended ≡ Ok (report_with (is_json job) f))
-      → (found ≡ Err faults.Memory → ended ≡ Ok (report_with (is_json job) (bare outcomes.Memory)))
+  -- the judgement comes to the report of what it finds
+  pub judges_to : (words : JudgeWords) (found : Result Finding JobFault) (ended : Result Report JobFault)
+      → IfOk found (λ f. IsJudgedAs holds lacks (string_bytes words.policy) (option_map string_bytes words.facts)
+      words.budget input (option_map string_bytes f.name) f.explanation f.outcome)
+      → IfOk found (λ f. IsGiven f.explanation ↔ (IsTrue words.explain × IsDecision f.outcome))
+      → IfErr found (MemoryOrStop (StopsBy holds lacks (string_bytes words.policy)
+      (option_map string_bytes words.facts) words.budget input))
+      → IfOk found (λ f. ended ≡ Ok (report_with words.json f))
+      → (found ≡ Err faults.Memory → ended ≡ Ok (report_with words.json (bare outcomes.Memory)))
       → IfErr found (λ e. e ≢ faults.Memory → ended ≡ Err e)
-      → ComesTo holds lacks input job ended
-  comes_to job (Ok finding) ended finds given stops kept memory others = rw kept (refl, given, inr finds)
-  comes_to job (Err e) ended finds given (inl none) kept memory others =
+      → JudgesTo holds lacks input words ended
+  judges_to words (Ok f) ended finds given stops kept memory others = rw kept (refl, given, inr finds)
+  judges_to words (Err e) ended finds given (inl none) kept memory others =
       rw (memory (ap Err none)) (refl, nothing_given, inl refl)
-  comes_to job (Err e) ended finds given (inr stops) kept memory others =
-      rw (others (λ none. never_by_memory job (rw none at stops))) stops
+  judges_to words (Err e) ended finds given (inr stops) kept memory others =
+      rw (others (λ none. never_by_memory _ _ _ (rw none at stops))) stops
 
-  -- what a job finds it finds where less is told of it
-  finds_less : (job : Job) (name : Option (List ℕ)) (explanation : Explanation) (outcome : Outcome)
-      → Finds holds lacks input job name explanation outcome
-      → Finds holds lacks input job name (less_told explanation) outcome
-  finds_less (Check policy budget json) name explanation outcome finds = finds
-  finds_less (CheckConfig config) name explanation outcome finds = finds
-  finds_less (Replay config) name explanation outcome finds = finds
-  finds_less (Control words) name explanation outcome finds = finds
-  finds_less (Proxy words) name explanation outcome finds = finds
-  finds_less (Serve words) name explanation outcome finds = finds
-  finds_less (Batch words) name explanation outcome finds = finds
-  finds_less (Judge policy facts budget json explain) name explanation outcome finds = record {
-    policy = finds.policy;
-    facts = finds.facts;
-    bytes = finds.bytes;
-    read = finds.read;
-    conn = finds.conn;
-    all = finds.all;
-    found = less_found finds.policy budget finds.facts finds.bytes name explanation outcome finds.found;
-  }
-
-  -- the job comes to what is printed of its report
-  comes_as : (job : Job) (report printed : Report) → ComesTo holds lacks input job (Ok report)
-      → IsPrintedFor report printed → ComesTo holds lacks input job (Ok printed)
-  comes_as job report printed comes (inl same) = rw same comes
-  comes_as job report printed (json, given, finds) (inr (inl less)) = rw less (
+  -- and to what is printed of that report
+  judges_as : (words : JudgeWords) (report printed : Report) (why : Why) → JudgesTo holds lacks input words (Ok report)
+      → IsPrintedFor (told_with why report) printed → JudgesTo holds lacks input words (Ok printed)
+  judges_as words report printed why comes (inl same) = rw same comes
+  judges_as words report printed why (json, given, finds) (inr (inl less)) = rw less (
     json,
     (λ g. given.0 ((less_given report.explanation).0 g), λ p. (less_given report.explanation).1 (given.1 p)),
     elim finds [
       | inl none ↦ inl none
-      | inr found ↦ inr (finds_less job _ report.explanation report.outcome found)
+      | inr found ↦ inr (record {
+        policy = found.policy;
+        facts = found.facts;
+        bytes = found.bytes;
+        read = found.read;
+        conn = found.conn;
+        all = found.all;
+        found = less_found found.policy words.budget found.facts found.bytes _ report.explanation report.outcome found.found;
+      })
     ],
   )
-  comes_as job report printed (json, given, finds) (inr (inr none)) = rw none (json, nothing_given, inl refl)
+  judges_as words report printed why (json, given, finds) (inr (inr out_of)) =
+      rw out_of (json, nothing_given, inl refl)
 
-  -- a report comes with why it is no verdict
-  comes_told : (job : Job) (report : Report) (why : Why) → ComesTo holds lacks input job (Ok report)
-      → ComesTo holds lacks input job (Ok (told_with why report))
-  comes_told job report why comes = comes
-
-  module _ (out out_new errors errors_new : Option (List ℕ)) (status : ℕ) (job : Job) where
-    -- the job ends with its result as it was printed
-    pub end_of_result : (found : Result Report JobFault) → ComesTo holds lacks input job found
-        → EndsResult out out_new errors errors_new status (is_json job) found
-        → EndsReport holds lacks input out out_new errors errors_new status job
-    end_of_result (Ok report) comes ends =
-        let comes_so = comes_told job report ends.why comes in
-        EndsReport.ended (Ok ends.printed) (comes_as job (told_with ends.why report) ends.printed comes_so ends.same) ends.left
-    end_of_result (Err fault) comes (inl left) = EndsReport.ended (Err fault) comes left
-    end_of_result (Err fault) comes (inr none) = EndsReport.memory none
+  module _ (out out_new errors errors_new : Option (List ℕ)) (status : ℕ) where
+    -- the judgement ends with what it comes to, as it was printed
+    pub end_of_judge : (words : JudgeWords) (found : Result Report JobFault) → JudgesTo holds lacks input words found
+        → EndsResult out out_new errors errors_new status words.json found
+        → EndsReport out out_new errors errors_new status words.json (JudgesTo holds lacks input words)
+    end_of_judge words found comes ends =
+        end_of_result out out_new errors errors_new status words.json (JudgesTo holds lacks input words) (judges_as words)
+        found comes ends
 
 module _ (out out_new errors errors_new : Option (List ℕ)) (status : ℕ) (fault : JobFault) where
   -- a fault is told in words, or out of memory

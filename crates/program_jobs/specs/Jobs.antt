@@ -34,15 +34,14 @@ use Rattle.rbac_judge.specs.Outcome.{line_of, printed_of, status_of}
 use Rattle.program_texts.specs.Output.{BreaksOff, Takes}
 use Rattle.stream_pumps.specs.Rounds.{Link, Rounds, ServesOneStream}
 use Rattle.program_texts.specs.Shown.{shown}
-use Rattle.command_line.specs.Words.{is_explained, is_json}
 use Rattle.rbac_judge.specs.declared.explain.Explanation.{Explanation}
 use Rattle.rbac_judge.specs.declared.explain.Explanation.TheVariants as explanations
 use Rattle.command_line.specs.declared.control_words.ControlWords.{ControlWords}
 use Rattle.command_line.specs.declared.control_words.SnapshotFiles.{SnapshotFiles}
 use Rattle.command_line.specs.declared.control_words.SnapshotFiles.TheVariants.{Filters, Responses}
-use Rattle.command_line.specs.declared.words.Job.{Job}
 use Rattle.command_line.specs.declared.words.BatchWords.{BatchWords}
-use Rattle.command_line.specs.declared.words.Job.TheVariants.{Check, Judge}
+use Rattle.command_line.specs.declared.words.CheckWords.{CheckWords}
+use Rattle.command_line.specs.declared.words.JudgeWords.{JudgeWords}
 use Rattle.command_line.specs.declared.words.ProxyWords.{ProxyWords}
 use Rattle.rbac_judge.specs.declared.outcome.Outcome.{Outcome}
 use Rattle.rbac_judge.specs.declared.outcome.Outcome.TheVariants as outcomes
@@ -114,29 +113,22 @@ module _ (holds : Text → Text → Type 0) (lacks : (Text × IoError) → Type 
           → IsConnOf facts_path facts → Admissible policy largest budget → IsInputFault fault
           → StopsBy fault
 
-  -- the job with this input has this outcome, this name of the policy that matched, and this explanation
-  abbrev pub Finds : Option Text → Job → Option Text → Explanation → Outcome → Type 0
-  Finds input (Check policy budget json) name explanation outcome =
-      IsCheckedAs (string_bytes policy) budget outcome
-  Finds input (Judge policy facts budget json explain) name explanation outcome =
-      IsJudgedAs (string_bytes policy) (option_map string_bytes facts) budget input name explanation outcome
-  Finds input _ name explanation outcome = ⊥
+  -- what a check comes to: a report without an explanation, or the fault that stops it
+  abbrev pub ChecksTo : CheckWords → Result Report JobFault → Type 0
+  ChecksTo words (Ok report) = (report.json ≡ words.json) × (¬ IsGiven report.explanation)
+      × ((report.outcome ≡ outcomes.Memory) ⊎ IsCheckedAs (string_bytes words.policy) words.budget report.outcome)
+  ChecksTo words (Err fault) = IsUnread (string_bytes words.policy) fault
 
-  -- this fault stops the job with this input
-  abbrev pub IsStoppedBy : Option Text → Job → JobFault → Type 0
-  IsStoppedBy input (Check policy budget json) fault = IsUnread (string_bytes policy) fault
-  IsStoppedBy input (Judge policy facts budget json explain) fault =
-      StopsBy (string_bytes policy) (option_map string_bytes facts) budget input fault
-  IsStoppedBy input _ fault = ⊥
-
-  -- the result of the job with this input: a report, or the fault that stops it. The report has an explanation exactly
-  -- if the job asks for one and there is a verdict to explain
-  abbrev pub ComesTo : Option Text → Job → Result Report JobFault → Type 0
-  ComesTo input job (Ok report) = (report.json ≡ is_json job)
-      × (IsGiven report.explanation ↔ (IsTrue (is_explained job) × IsDecision report.outcome))
+  -- what a judgement of this input comes to: a report, or the fault that stops it. The report has an explanation exactly
+  -- if the words ask for one and there is a verdict to explain
+  abbrev pub JudgesTo : Option Text → JudgeWords → Result Report JobFault → Type 0
+  JudgesTo input words (Ok report) = (report.json ≡ words.json)
+      × (IsGiven report.explanation ↔ (IsTrue words.explain × IsDecision report.outcome))
       × ((report.outcome ≡ outcomes.Memory)
-      ⊎ Finds input job (option_map string_bytes report.name) report.explanation report.outcome)
-  ComesTo input job (Err fault) = IsStoppedBy input job fault
+      ⊎ IsJudgedAs (string_bytes words.policy) (option_map string_bytes words.facts) words.budget input
+      (option_map string_bytes report.name) report.explanation report.outcome)
+  JudgesTo input words (Err fault) =
+      StopsBy (string_bytes words.policy) (option_map string_bytes words.facts) words.budget input fault
 
 -- the first line of a fault on standard error, if it has one
 abbrev pub first_line : JobFault → Text
@@ -238,6 +230,11 @@ module _ (out out_new errors errors_new : Option Text) (status : ℕ) where
   Leaves json (Ok report) = PrintsReport report
   Leaves json (Err fault) = LeavesAs json fault
 
+  -- a job that comes to such a result has one, which is printed; or memory ran out
+  pub data EndsReport (json : Bool) (Comes : Result Report JobFault → Type 0) : Type 0 where
+    ended : (found : Result Report JobFault) → Comes found → Leaves json found → EndsReport json Comes
+    memory : LeavesFault faults.Memory → EndsReport json Comes
+
 -- the first line on standard error for an input line that is no event
 abbrev pub bad_line : ℕ → Text
 bad_line number = codes "bad line " ++ (decimal number ++ (10 ∷ []))
@@ -259,12 +256,6 @@ LeavesReplay errors errors_new status replay_faults.Memory = (status ≡ 5) × (
 -- parameters: a source of files, an input, the outputs before and after a run, and its status
 module _ (holds : Text → Text → Type 0) (lacks : (Text × IoError) → Type 0) (input : Option Text)
     (out out_new errors errors_new : Option Text) (status : ℕ) where
-  -- the job has this result, which is printed; or memory ran out
-  pub data EndsReport (job : Job) : Type 0 where
-    ended : (found : Result Report JobFault) → ComesTo holds lacks input job found
-        → Leaves out out_new errors errors_new status (is_json job) found → EndsReport job
-    memory : LeavesFault out out_new errors errors_new status faults.Memory → EndsReport job
-
   -- parameters of a batch: its words
   module _ (words : BatchWords) where
     -- the heads are judged by this policy, which is admitted, and lines without facts have these

@@ -67,12 +67,8 @@ pub(crate) fn text_of(alloc: Global, fault: &JobFault, notes: &Notes) -> Result<
         }
         JobFault::File(path, cause) => {
             let path = shown(alloc, path.as_str())?;
-            let cause = cause.to_string(alloc)?;
-            with_cause(
-                alloc,
-                format!(in alloc; "cannot read {path}\n")?,
-                cause.as_str(),
-            )
+            let line = format!(in alloc; "cannot read {path}\n")?;
+            with_error(alloc, line, cause)
         }
         JobFault::Facts => {
             let line = String::from_str(alloc, "bad facts\n")?;
@@ -83,24 +79,29 @@ pub(crate) fn text_of(alloc: Global, fault: &JobFault, notes: &Notes) -> Result<
             with_cause(alloc, line, notes.config.as_str())
         }
         JobFault::Input(cause) => {
-            let cause = cause.to_string(alloc)?;
             let line = String::from_str(alloc, "cannot read standard input\n")?;
-            with_cause(alloc, line, cause.as_str())
+            with_error(alloc, line, cause)
         }
         JobFault::Log(path, cause) => {
             let path = shown(alloc, path.as_str())?;
-            let cause = cause.to_string(alloc)?;
             let line = format!(in alloc; "cannot write {path}\n")?;
-            with_cause(alloc, line, cause.as_str())
+            with_error(alloc, line, cause)
         }
         JobFault::Listen(address, cause) => {
             let address = shown(alloc, address.as_str())?;
-            let cause = cause.to_string(alloc)?;
             let line = format!(in alloc; "cannot listen {address}\n")?;
-            with_cause(alloc, line, cause.as_str())
+            with_error(alloc, line, cause)
         }
         JobFault::Memory => Ok(String::new(alloc)),
     }
+}
+
+/// The text, with a line for the cause of this error below.
+fn with_error(alloc: Global, line: String, error: &io::Error) -> Result<String, AllocError>
+    ensures { IfOk result (λ text. StartsWith (string_bytes text) (string_bytes line)) }
+{
+    let cause = error.to_string(alloc)?;
+    with_cause(alloc, line, cause.as_str())
 }
 
 /// The text, with a line for the cause below.

@@ -22,7 +22,7 @@ pub use ending::{MISTAKE, end_by, end_by_memory, show, tell};
 pub use files::Source;
 pub use job_fault::JobFault;
 pub use reading::read_file;
-pub use reports::run_reported;
+pub use reports::{run_check, run_judge};
 pub use serve::{run_control, run_proxy};
 pub use settings::{check_config, replay_config};
 pub use setup::{Setup, SetupFault, read_setup, setup_text};

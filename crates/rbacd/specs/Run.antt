@@ -9,7 +9,7 @@ use Rattle.command_line.specs.declared.words.Job.{Job}
 use Rattle.command_line.specs.declared.words.Job.TheVariants.{Batch, Check, CheckConfig, Control, Judge, Proxy, Replay, Serve}
 use Rattle.program_jobs.specs.declared.job_fault.JobFault.{JobFault}
 use Rattle.program_jobs.specs.declared.job_fault.JobFault.TheVariants as faults
-use Rattle.program_jobs.specs.Jobs.{EndsBatch, EndsConfig, EndsControl, EndsProxy, EndsReplay, EndsReport, IsUnread, LeavesFault, Prints}
+use Rattle.program_jobs.specs.Jobs.{ChecksTo, EndsBatch, EndsConfig, EndsControl, EndsProxy, EndsReplay, EndsReport, IsUnread, JudgesTo, LeavesFault, Prints}
 
 module _ (holds : Text → Text → Type 0) (lacks : (Text × IoError) → Type 0) where
   -- the file at this path cannot be read, or is called bad settings of a server; that they are bad is not said
@@ -39,10 +39,8 @@ module _ (holds : Text → Text → Type 0) (lacks : (Text × IoError) → Type 
     (out out_new errors errors_new : Option Text) (status : ℕ) where
   -- the end of a job
   abbrev pub EndsJob : Job → Type 0
-  EndsJob (Check policy budget json) =
-      EndsReport holds lacks input out out_new errors errors_new status (Check policy budget json)
-  EndsJob (Judge policy facts budget json explain) =
-      EndsReport holds lacks input out out_new errors errors_new status (Judge policy facts budget json explain)
+  EndsJob (Check words) = EndsReport out out_new errors errors_new status words.json (ChecksTo holds lacks words)
+  EndsJob (Judge words) = EndsReport out out_new errors errors_new status words.json (JudgesTo holds lacks input words)
   EndsJob (Batch words) = EndsBatch holds lacks input out out_new errors errors_new status words
   EndsJob (CheckConfig config) =
       EndsConfig holds lacks out out_new errors errors_new status (string_bytes config)

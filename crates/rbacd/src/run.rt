@@ -9,8 +9,8 @@ use crate::server::{Hosts, run_serve};
 use clap::error::ErrorKind as WordsKind;
 use command_line::{Job, read_words};
 use program_jobs::{
-    JobFault, Sockets, Source, check_config, end_by, replay_config, run_batch, run_control,
-    run_proxy, run_reported,
+    JobFault, Sockets, Source, check_config, end_by, replay_config, run_batch, run_check,
+    run_control, run_judge, run_proxy,
 };
 use rbac_judge::Notes;
 use std::alloc::Global;
@@ -62,47 +62,13 @@ fn run_named<F: Source + Sockets + Hosts, R: BufRead + Drop, W: Write, E: Write>
         (W.contents out.old) (W.contents out.new) (E.contents errors.old) (E.contents errors.new) result job }
 {
     match job {
+        Job::Check(words) => run_check(alloc, &words, files, out, errors),
+        Job::Judge(words) => run_judge(alloc, words, files, input, out, errors),
+        Job::Batch(words) => run_batch(alloc, words, files, input, out, errors),
         Job::CheckConfig { config } => check_config(alloc, config.as_str(), files, out, errors),
         Job::Replay(words) => replay_config(alloc, &words, files, input, out, errors),
-        Job::Serve(words) => run_serve(alloc, &words, files, out, errors),
         Job::Control(words) => run_control(alloc, &words, files, out, errors),
         Job::Proxy(words) => run_proxy(alloc, words, files, out, errors),
-        Job::Batch(words) => run_batch(alloc, words, files, input, out, errors),
-        Job::Check {
-            policy,
-            budget,
-            json,
-        } => run_reported(
-            alloc,
-            Job::Check {
-                policy,
-                budget,
-                json,
-            },
-            files,
-            input,
-            out,
-            errors,
-        ),
-        Job::Judge {
-            policy,
-            facts,
-            budget,
-            json,
-            explain,
-        } => run_reported(
-            alloc,
-            Job::Judge {
-                policy,
-                facts,
-                budget,
-                json,
-                explain,
-            },
-            files,
-            input,
-            out,
-            errors,
-        ),
+        Job::Serve(words) => run_serve(alloc, &words, files, out, errors),
     }
 }

@@ -17,10 +17,10 @@ returns-clause-job c = (
 )
 
 pub returns-in_default-clause-none : goal.returns-in_default-clause-none
-returns-in_default-clause-none c = of_check (λ job. ¬ (IsJobOfRows (rows_of (found_of c.args.matches.now)) job)) (λ policy budget json held.
+returns-in_default-clause-none c = of_check (λ job. ¬ (IsJobOfRows (rows_of (found_of c.args.matches.now)) job)) (λ words held.
     let first = first_value-rows (found_of c.args.matches.now) (codes "policy") ∙ held.0 in
     let none = c.in_default.ensures in cc)
 
 pub returns-in_default-budget_of-clause-none : goal.returns-in_default-budget_of-clause-none
-returns-in_default-budget_of-clause-none c = of_check (λ job. ¬ (IsJobOfRows (rows_of (found_of c.args.matches.now)) job)) (λ policy budget json held.
-    c.in_default-budget_of.ensures.none budget held.1)
+returns-in_default-budget_of-clause-none c = of_check (λ job. ¬ (IsJobOfRows (rows_of (found_of c.args.matches.now)) job)) (λ words held.
+    c.in_default-budget_of.ensures.none words.budget held.1)

@@ -4,10 +4,10 @@ pub returns-in-CheckConfig : goal.returns-in-CheckConfig
 returns-in-CheckConfig g c = rw c.in-CheckConfig.is (rw c.as_str.ensures.value at c.check_config.ensures)
 
 pub returns-in-Check : goal.returns-in-Check
-returns-in-Check g c = rw c.in-Check.is c.run_reported.ensures
+returns-in-Check g c = rw c.in-Check.is c.run_check.ensures
 
 pub returns-in-Judge : goal.returns-in-Judge
-returns-in-Judge g c = rw c.in-Judge.is c.run_reported-in-Judge.ensures
+returns-in-Judge g c = rw c.in-Judge.is c.run_judge.ensures
 
 pub returns-in-Replay : goal.returns-in-Replay
 returns-in-Replay g c = rw c.in-Replay.is c.replay_config.ensures
