@@ -225,7 +225,8 @@ int32_t vupresal_filter_admit(vupresal_filter *filter, const uint8_t *message, s
 /* Decides on one request, by its parts.
  *
  * Status: VUPRESAL_OK, with the decision; VUPRESAL_BAD_REQUEST if a head of HTTP/1 could not have these parts (as a value with a
- * line end, a name that is no token, two hosts, or none in HTTP/1.1) or a text is not UTF-8; VUPRESAL_OUTSIDE_LIMITS;
+ * line end, a name that is no token, two hosts, or none in HTTP/1.1), a text is not UTF-8, or a text of the facts has more than
+ * 65,536 bytes, of which none is then read; VUPRESAL_OUTSIDE_LIMITS;
  * VUPRESAL_TRANSFER_CODING; VUPRESAL_MEMORY; VUPRESAL_EMPTY. The filter stays as it was. */
 int32_t vupresal_filter_decide(vupresal_filter *filter, const vupresal_request *request, const vupresal_facts *facts,
                                vupresal_decision *decision);
@@ -294,7 +295,8 @@ int32_t vupresal_proxy_ads_lost(vupresal_proxy *proxy, vupresal_given *given);
 
 /* A connection opens with these facts, delivers bytes, or is closed by its client. Connections are 0 to 7; bytes on one that is not
  * open give nothing, and so does any other number.
- * Status: as above; of vupresal_proxy_http_open also VUPRESAL_BAD_REQUEST, for a text of the facts that is not UTF-8. */
+ * Status: as above; of vupresal_proxy_http_open also VUPRESAL_BAD_REQUEST, for a text of the facts that is not UTF-8 or has more than
+ * 65,536 bytes. */
 int32_t vupresal_proxy_http_open(vupresal_proxy *proxy, uint64_t number, const vupresal_facts *facts, vupresal_given *given);
 int32_t vupresal_proxy_http_bytes(vupresal_proxy *proxy, uint64_t number, const uint8_t *bytes, size_t length,
                                   vupresal_given *given);

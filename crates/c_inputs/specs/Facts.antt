@@ -1,5 +1,5 @@
 -- The facts of a connection as a program in C gives them (this project's own): which facts they are.
-use Rattle.std.specs.Prelude.{ℕ, zero, suc, ℤ, pos, negsuc, ◌≡◌, ◌⊎◌, ◌==◌, nat_lt, Bool, true, false, Option, Some, None, List, [], ◌∷◌, length, IfSome, if◌then◌else◌}
+use Rattle.std.specs.Prelude.{ℕ, zero, suc, ℤ, pos, negsuc, ◌≡◌, ◌⊎◌, ◌==◌, ◌≤◌, nat_lt, Bool, true, false, Option, Some, None, List, [], ◌∷◌, length, IfSome, if◌then◌else◌}
 use Rattle.std.specs.Int.{from_be_bytes, w32, w128}
 use Rattle.std.specs.List.{AllByRecursion}
 use Rattle.std.specs.Str.{IsUtf8}
@@ -51,9 +51,13 @@ facts_given f = record {
   scheme = f.scheme.now;
 }
 
--- each text of the facts is UTF-8
+-- UTF-8 of at most 65,536 bytes
+abbrev pub IsText : List ℕ → Type 0
+IsText bytes = IsUtf8 bytes × (length bytes ≤ 65536)
+
+-- each text of the facts is such a text
 abbrev pub AreTexts : Facts → Type 0
-AreTexts f = AllByRecursion (λ text. IfSome text IsUtf8) (texts_of f)
+AreTexts f = AllByRecursion (λ text. IfSome text IsText) (texts_of f)
 
 -- out of memory, or a text is at fault, as P says
 abbrev pub MemoryOr : Type 0 → FactsFault → Type 0

@@ -2,14 +2,16 @@
 
 ghost use Rattle.std.specs.Prelude.{◌≡◌, IfOk, IfErr, IfSome, Some, None, if◌then◌else◌};
 ghost use Rattle.std.specs.Rc.{rc_str_bytes};
-ghost use Rattle.std.specs.Str.{IsUtf8};
 ghost use Rattle.attributes.specs.Conn.{conn_view, text_view};
-ghost use Rattle.c_inputs.specs.Facts.{AreTexts, MemoryOr, address_given, facts_given, flag_given, port_given, text_given};
+ghost use Rattle.c_inputs.specs.Facts.{AreTexts, IsText, MemoryOr, address_given, facts_given, flag_given, port_given, text_given};
 
 use attributes::{Conn, Ip};
 use std::alloc::{AllocError, Global};
 use std::rc::RcStr;
 use std::str;
+
+// A longer text is not read: its length may be wrong. The greatest limit of a text is 1,024.
+const MOST_BYTES: usize = 65_536;
 
 /// A text that may be absent. The bytes of an absent one are not read.
 #[repr(C)]
@@ -43,7 +45,7 @@ pub struct FactsInput<'a> {
 
 /// Why facts are no connection.
 pub enum FactsFault {
-    /// A text is not UTF-8.
+    /// A text is not UTF-8, or has more than 65,536 bytes. The bytes of such a long one are not read.
     NoText,
     /// Memory ran out.
     Memory,
@@ -59,7 +61,7 @@ impl From<AllocError> for FactsFault {
     }
 }
 
-/// The connection of these facts; `NoText` if one of the texts is not UTF-8.
+/// The connection of these facts; `NoText` if a text is not UTF-8, or has more than 65,536 bytes.
 pub fn conn_of(alloc: Global, facts: &FactsInput<'_>) -> Result<Conn, FactsFault>
     ensures found { IfOk result (λ conn. conn_view conn ≡ facts_given facts.now) }
     ensures fault { IfErr result (MemoryOr (¬ (AreTexts (facts_given facts.now)))) }
@@ -85,8 +87,11 @@ pub fn conn_of(alloc: Global, facts: &FactsInput<'_>) -> Result<Conn, FactsFault
 
 fn shared_text(alloc: Global, bytes: &[u8]) -> Result<RcStr, FactsFault>
     ensures found { IfOk result (λ text. rc_str_bytes text ≡ bytes.now) }
-    ensures fault { IfErr result (MemoryOr (¬ (IsUtf8 bytes.now))) }
+    ensures fault { IfErr result (MemoryOr (¬ (IsText bytes.now))) }
 {
+    if bytes.len() > MOST_BYTES {
+        return Err(FactsFault::NoText);
+    }
     match str::from_utf8(bytes) {
         Ok(text) => Ok(RcStr::from_str(alloc, text)?),
         Err(_) => Err(FactsFault::NoText),
@@ -95,7 +100,7 @@ fn shared_text(alloc: Global, bytes: &[u8]) -> Result<RcStr, FactsFault>
 
 fn text_or_none(alloc: Global, given: &Text<'_>) -> Result<Option<RcStr>, FactsFault>
     ensures found { IfOk result (λ text. text_view text ≡ text_given given.now) }
-    ensures fault { IfErr result (MemoryOr (¬ (IfSome (text_given given.now) IsUtf8))) }
+    ensures fault { IfErr result (MemoryOr (¬ (IfSome (text_given given.now) IsText))) }
 {
     if !given.is_there {
         return Ok(None);

@@ -42,9 +42,10 @@ StepsTo (Some old) event status given new =
     ((status ≡ done) × IsSomeAnd new (Takes old event given))
     ⊎ ((status ≡ status_of memory) × (TakesNoMemory (proxy_view old.proxy) event → ⊥) × Stays (Some old) given new)
 
--- the effect of the opening of a connection: that of the event, unless a text of its facts is not UTF-8, or memory ran
--- out before
+-- the effect of the opening of a connection: that of the event, unless a text of its facts is at fault, or memory ran
+-- out before. An empty handle stays empty, whatever the facts are
 abbrev pub OpensFrom : Option Core → ℕ → Facts → ℤ → Given → Option Core → Type 0
-OpensFrom old number facts status given new = StepsTo old (http_open number facts) status given new
-    ⊎ ((status ≡ status_of BadFacts) × (AreTexts facts → ⊥) × Stays old given new)
-    ⊎ ((status ≡ status_of memory) × Stays old given new)
+OpensFrom None number facts status given new = (status ≡ status_of Empty) × Stays None given new
+OpensFrom (Some old) number facts status given new = StepsTo (Some old) (http_open number facts) status given new
+    ⊎ ((status ≡ status_of BadFacts) × (AreTexts facts → ⊥) × Stays (Some old) given new)
+    ⊎ ((status ≡ status_of memory) × Stays (Some old) given new)

@@ -24,7 +24,7 @@ pub(crate) enum Fault {
     Refused(Refusal),
     /// A condition took more steps than it may.
     OutOfSteps,
-    /// A text of the facts is not UTF-8.
+    /// A text of the facts is not UTF-8, or too long to be read.
     BadFacts,
     /// The bytes end inside the head.
     Unfinished,

@@ -110,8 +110,27 @@ pub extern "C" fn vupresal_proxy_ads_lost(
     step(alloc, proxy, Event::AdsLost, given)
 }
 
+/// Opens the connection of this number in the core.
+fn open_in(
+    alloc: Global,
+    core: &mut Core,
+    number: u64,
+    facts: &FactsInput<'_>,
+    given: &mut Given,
+) -> i32
+    ensures { OpensFrom (Some core.old) number (facts_given facts.now) result given.new (Some core.new) }
+{
+    match conn_of(alloc, facts) {
+        Ok(conn) => step_core(core, Event::HttpOpen(number, &conn), given),
+        Err(fault) => {
+            *given = Given::nothing();
+            Fault::from(fault).status()
+        }
+    }
+}
+
 /// A connection of this number, 0 to 7, opens with these facts. The status is also 400, for a text of the facts that is
-/// not UTF-8.
+/// not UTF-8 or has more than 65,536 bytes.
 #[unsafe(no_mangle)]
 pub extern "C" fn vupresal_proxy_http_open(
     alloc: Global,
@@ -123,13 +142,13 @@ pub extern "C" fn vupresal_proxy_http_open(
     ensures { OpensFrom (core_in proxy.old) number (facts_given facts.now) result given.new
         (core_in proxy.new) }
 {
-    match conn_of(alloc, facts) {
-        Ok(conn) => step(alloc, proxy, Event::HttpOpen(number, &conn), given),
-        Err(fault) => {
-            *given = Given::nothing();
-            Fault::from(fault).status()
-        }
-    }
+    let Some(mut core) = proxy.take(alloc) else {
+        *given = Given::nothing();
+        return Fault::Empty.status();
+    };
+    let status = open_in(alloc, &mut core, number, facts, given);
+    proxy.put(core);
+    status
 }
 
 /// The connection of this number delivers bytes.

@@ -179,8 +179,9 @@ static void facts(vupresal_filter *filter) {
     no_decision(filter, plain, PLAIN_LENGTH, &wrong, VUPRESAL_BAD_REQUEST);
     *one = vupresal_text_of(large, sizeof large);
     no_decision(filter, plain, PLAIN_LENGTH, &wrong, VUPRESAL_OUTSIDE_LIMITS);
-    /* an absent one is not read */
+    /* a text that is far too long is not read, and neither is an absent one */
     *one = vupresal_text_of("a", ENDLESS);
+    no_decision(filter, plain, PLAIN_LENGTH, &wrong, VUPRESAL_BAD_REQUEST);
     one->is_there = false;
     vupresal_decision decision = stale();
     CHECK_STATUS(vupresal_filter_decide_head(filter, plain, PLAIN_LENGTH, &wrong, &decision), VUPRESAL_OK);
@@ -214,6 +215,9 @@ static void proxies(void) {
     CHECK_STATUS(vupresal_proxy_ads_bytes(&proxy, NULL, 0, &given), VUPRESAL_EMPTY);
     CHECK_STATUS(vupresal_proxy_ads_lost(&proxy, &given), VUPRESAL_EMPTY);
     CHECK_STATUS(vupresal_proxy_http_open(&proxy, 0, &bare, &given), VUPRESAL_EMPTY);
+    vupresal_facts unread = bare;
+    unread.scheme = text("\xff");
+    CHECK_STATUS(vupresal_proxy_http_open(&proxy, 0, &unread, &given), VUPRESAL_EMPTY);
     CHECK_STATUS(vupresal_proxy_http_bytes(&proxy, 0, plain, PLAIN_LENGTH, &given), VUPRESAL_EMPTY);
     CHECK_STATUS(vupresal_proxy_http_closed(&proxy, 0, &given), VUPRESAL_EMPTY);
     CHECK(vupresal_proxy_ads_output(&proxy, room, sizeof room) == 0 &&
