@@ -44,14 +44,19 @@ def pairs(*entries):
     return expr(8, b"".join(text(2, text(3, key) + text(4, value)) for key, value in entries))
 
 
-def loop(element, over, gathered, init, condition, step, result):
-    names = text(1, element) + text(3, gathered)
+def loop(element, over, gathered, init, condition, step, result, second=b""):
+    names = text(1, element) + (text(8, second) if second else b"") + text(3, gathered)
     return expr(9, names + text(2, over) + text(4, init) + text(5, condition) + text(6, step) + text(7, result))
 
 
 def gather(over, init, step, result, gathered=b"acc", element=b"x"):
     """A loop over all of a list or map."""
     return loop(element, over, gathered, init, boolean(), step, result)
+
+
+def gather_table(over, init, step, result, gathered, key, value):
+    """A loop over all keys and values of a map."""
+    return loop(key, over, gathered, init, boolean(), step, result, value)
 
 
 def both(*sides):
