@@ -15,6 +15,9 @@ use crate::snapshot::{Resource, Snapshot};
 use std::alloc::{AllocError, Global};
 use xds_wire::{Any, DiscoveryResponse, TypedExtensionConfig, write_extension, write_response};
 
+/// The longest message that is taken or sent, in bytes.
+pub(crate) const MOST_BYTES: usize = 1_048_576;
+
 /// The message of the response that sends the snapshot of this number for these names. Its nonce is `count`, the number
 /// of responses sent so far, including it.
 pub(crate) fn response_bytes(

@@ -10,9 +10,8 @@ ghost use Rattle.ads.specs.steps.Serving.{IsKind, AddsReplies, IsServed, Message
 
 use crate::judging::EXTENSION_TYPE;
 use crate::refused::memory_apart;
-use crate::response::{decimal_text, response_bytes};
+use crate::response::{MOST_BYTES, decimal_text, response_bytes};
 use crate::snapshot::Snapshot;
-use crate::stream::MOST_BYTES;
 use std::alloc::{AllocError, Global};
 use xds_wire::{DiscoveryRequest, Frames, read_request, write_frame};
 

@@ -14,14 +14,12 @@ ghost use Rattle.ads.specs.Views.{served_view, snapshots_view};
 use crate::accepted::{Draft, State};
 use crate::answer::answer_all;
 use crate::config::Config;
+use crate::response::MOST_BYTES;
 use crate::serving::{Served, serve_all};
 use crate::snapshot::Snapshot;
 use std::alloc::{AllocError, Global};
 use std::marker::Model;
 use xds_wire::{FrameError, Frames};
-
-/// The greatest length of a message in bytes.
-pub(crate) const MOST_BYTES: usize = 1_048_576;
 
 /// A stream that is up. All its complete messages were answered.
 #[derive(Debug, Drop)]

@@ -8,7 +8,7 @@ use Rattle.attributes.specs.Request.{IsRequest, RequestValue}
 use Rattle.cel_tree.specs.Message.{ExprParts}
 use Rattle.cel_tree.specs.Checked.{CelChecked}
 use Rattle.cel_tree.specs.GoodConstants.{HasGoodConstants}
-use Rattle.cel_tree.proofs.GoodConstantLaws.{expr_good}
+use Rattle.cel_read.proofs.GoodConstantLaws.{expr_good}
 use Rattle.xds_wire.specs.Discovery.{ExtensionMessage}
 use Rattle.cel_types.specs.Typing.{maps_of}
 use Rattle.cel_types.proofs.WellTypedElaborations.{elaborated_typed}
