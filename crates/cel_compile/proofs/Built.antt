@@ -8,8 +8,8 @@ use Rattle.cel_value.specs.Types.{ValueType}
 use Rattle.cel_overload.specs.declared.overload.Overload.{Overload}
 use Rattle.cel_ops.specs.declared.operation.Operation.TheVariants as operations
 use Rattle.cel_overload.specs.declared.overload.Overload.TheVariants as overloads
-use Rattle.stack_machine.specs.Instructions.{Instruction, code_view, instr_view, Operate, IfFalse, IfTrue, Jump, Test}
-use Rattle.stack_machine.specs.declared.instr.Instr.{Instr}
+use Rattle.machine_code.specs.Instructions.{Instruction, code_view, instr_view, Operate, IfFalse, IfTrue, Jump, Test}
+use Rattle.machine_code.specs.declared.instr.Instr.{Instr}
 use Rattle.cel_compile.specs.declared.lengths.Lengths.{Lengths}
 use Rattle.cel_compile.specs.Codes.{code_of, codes_of, instruction_of}
 use Rattle.cel_compile.specs.steps.Extents.{extent}

@@ -4,8 +4,8 @@ use Rattle.cel_types.specs.Elaborated.{TypedTree, typed_loop}
 use Rattle.cel_types.specs.Names.{variable_count}
 use Rattle.cel_types.specs.declared.typed.Variables.{Variables}
 use Rattle.cel_value.specs.Types.{ValueType}
-use Rattle.stack_machine.specs.Instructions.{code_view, instr_view, Jump, LoopStart, LoopTest, Store}
-use Rattle.stack_machine.specs.declared.instr.Instr.{Instr}
+use Rattle.machine_code.specs.Instructions.{code_view, instr_view, Jump, LoopStart, LoopTest, Store}
+use Rattle.machine_code.specs.declared.instr.Instr.{Instr}
 use Rattle.cel_compile.specs.declared.lengths.Lengths.{Lengths}
 use Rattle.cel_compile.specs.Codes.{code_of, turn_instruction}
 use Rattle.cel_compile.specs.steps.Extents.{extent}

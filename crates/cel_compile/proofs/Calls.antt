@@ -11,9 +11,9 @@ use Rattle.cel_overload.specs.Answers.{operands_answer, on_one, on_two, overload
 use Rattle.cel_overload.specs.steps.Charges.{operands_charge, charge_of_one, charge_of_two, overload_charge}
 use Rattle.cel_overload.specs.declared.overload.Overload.{Overload}
 use Rattle.cel_overload.specs.declared.overload.Overload.TheVariants as overloads
-use Rattle.stack_machine.specs.Instructions.{Instruction, Operate}
-use Rattle.stack_machine.specs.Charges.{charge_on, work_charge}
-use Rattle.stack_machine.specs.Machine.{OpenLoop, State, act, goes, stuck, gives, unary, binary, literal, operate}
+use Rattle.machine_code.specs.Instructions.{Instruction, Operate}
+use Rattle.machine_code.specs.Charges.{charge_on, work_charge}
+use Rattle.machine_code.specs.Machine.{OpenLoop, State, act, goes, stuck, gives, unary, binary, literal, operate}
 use Rattle.cel_compile.specs.Codes.{instruction_of}
 use Rattle.cel_compile.proofs.Answering.{on_one_some, on_two_some}
 use Rattle.cel_compile.proofs.Goes.{Locals, state}

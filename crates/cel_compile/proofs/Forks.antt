@@ -5,11 +5,11 @@ use Rattle.cel_value.specs.Types.{ValueType, bool_type, int_type, list_type, map
 use Rattle.cel_types.specs.Typing.{IsOver}
 use Rattle.cel_types.specs.declared.typed.Variables.{Variables}
 use Rattle.cel_types.specs.declared.typed.Variables.TheVariants as variables
-use Rattle.stack_machine.specs.Instructions.{Instruction, IfFalse, IfTrue, Jump, LoopNext, LoopNext2, LoopStart, LoopTest, Store, Test}
-use Rattle.stack_machine.specs.Locals.{with_local}
-use Rattle.stack_machine.specs.Slots.{Slot, failing, of, is_a, loop_slot, pair_slots}
-use Rattle.stack_machine.specs.Shapes.{Serves, Shape, ways}
-use Rattle.stack_machine.specs.Typable.{Table}
+use Rattle.machine_code.specs.Instructions.{Instruction, IfFalse, IfTrue, Jump, LoopNext, LoopNext2, LoopStart, LoopTest, Store, Test}
+use Rattle.machine_code.specs.Locals.{with_local}
+use Rattle.machine_code.specs.Slots.{Slot, failing, of, is_a, loop_slot, pair_slots}
+use Rattle.machine_code.specs.Shapes.{Serves, Shape, ways}
+use Rattle.machine_code.specs.Typable.{Table}
 use Rattle.cel_compile.specs.Codes.{turn_instruction}
 use Rattle.cel_compile.proofs.Leading.{known_again, known_outside, known_still, locals_of, loop_known, shape, to}
 use Rattle.cel_compile.proofs.Settling.{Flows, Settled, Stands, first_settles, good_at, known, lead, one_more, plain, second_settles, served, serves_same, serves_trans, slots_refl, then_flows}

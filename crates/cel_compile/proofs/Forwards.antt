@@ -13,10 +13,10 @@ use Rattle.cel_types.specs.Names.{variable_count}
 use Rattle.cel_types.specs.Typing.{IsOver, maps_of}
 use Rattle.cel_types.specs.WellTyped.{AreWellTyped, IsWellTyped}
 use Rattle.cel_types.proofs.WellTypedElaborations.{elaborated_typed}
-use Rattle.stack_machine.specs.Instructions.{Instruction, Attr, Const, Field, HasField, IfFalse, IfTrue, Load, Operate}
-use Rattle.stack_machine.specs.Shapes.{Serves, leaves, ways}
-use Rattle.stack_machine.specs.Slots.{Slot, field_slot, has_field_slot, of}
-use Rattle.stack_machine.specs.Typable.{Forward, Table}
+use Rattle.machine_code.specs.Instructions.{Instruction, Attr, Const, Field, HasField, IfFalse, IfTrue, Load, Operate}
+use Rattle.machine_code.specs.Shapes.{Serves, leaves, ways}
+use Rattle.machine_code.specs.Slots.{Slot, field_slot, has_field_slot, of}
+use Rattle.machine_code.specs.Typable.{Forward, Table}
 use Rattle.cel_compile.specs.Codes.{code_of, instruction_of, list_instruction, map_instruction}
 use Rattle.cel_compile.specs.steps.Extents.{extent}
 use Rattle.cel_compile.proofs.Forks.{both_flow, choice_flow, if_false, if_true, less_serves, loop_flow, tests}

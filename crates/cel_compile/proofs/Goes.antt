@@ -4,10 +4,10 @@ use Rattle.std.proofs.lemmas.Bool.Decides.{nat_tests}
 use Rattle.cel_value.specs.Values.{CelAnswer, CelValue}
 use Rattle.attributes.specs.Request.{RequestValue}
 use Rattle.cel_types.specs.TypedMeaning.{local_at}
-use Rattle.stack_machine.specs.Instructions.{Instruction, Store}
-use Rattle.stack_machine.specs.Charges.{charge_on}
-use Rattle.stack_machine.specs.Locals.{with_local}
-use Rattle.stack_machine.specs.Machine.{OpenLoop, State, Step, RunReaches, more, act, goes}
+use Rattle.machine_code.specs.Instructions.{Instruction, Store}
+use Rattle.machine_code.specs.Charges.{charge_on}
+use Rattle.machine_code.specs.Locals.{with_local}
+use Rattle.machine_code.specs.Machine.{OpenLoop, State, Step, RunReaches, more, act, goes}
 
 -- what the machine's locals are
 abbrev pub Locals : Type 0

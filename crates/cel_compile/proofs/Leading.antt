@@ -24,10 +24,10 @@ use Rattle.cel_types.specs.Typing.{IsOver, constant_type}
 use Rattle.cel_types.specs.WellTyped.{AreAll, AreKeyed}
 use Rattle.cel_types.specs.declared.typed.Variables.{Variables}
 use Rattle.cel_types.specs.declared.typed.Variables.TheVariants as variables
-use Rattle.stack_machine.specs.Instructions.{Instruction}
-use Rattle.stack_machine.specs.Locals.{with_local}
-use Rattle.stack_machine.specs.Slots.{Slot, of, arithmetic_slot, compare_slot, concat_slot, constant_slot, has_size, in_list_slot, in_map_slot, joined_all, joined_entries, joined_slot, list_literal_slot, list_of, loop_slot, map_index_slot, map_literal_slot, map_of_slots, may_compare, of_type_if, size_slot}
-use Rattle.stack_machine.specs.Shapes.{Shape, Way, binary, leaves, literal, unary, ways}
+use Rattle.machine_code.specs.Instructions.{Instruction}
+use Rattle.machine_code.specs.Locals.{with_local}
+use Rattle.machine_code.specs.Slots.{Slot, of, arithmetic_slot, compare_slot, concat_slot, constant_slot, has_size, in_list_slot, in_map_slot, joined_all, joined_entries, joined_slot, list_literal_slot, list_of, loop_slot, map_index_slot, map_literal_slot, map_of_slots, may_compare, of_type_if, size_slot}
+use Rattle.machine_code.specs.Shapes.{Shape, Way, binary, leaves, literal, unary, ways}
 use Rattle.cel_compile.specs.Codes.{count, instruction_of, list_instruction, map_instruction, pairs}
 use Rattle.cel_compile.proofs.Calls.{IsStrict}
 use Rattle.cel_compile.proofs.Sound.{some_list, some_map}

@@ -12,10 +12,10 @@ use Rattle.cel_types.specs.declared.typed.Variables.{Variables}
 use Rattle.cel_types.specs.declared.typed.Variables.TheVariants as variables
 use Rattle.cel_costs.specs.Sizes.{Size, join}
 use Rattle.cel_costs.specs.Costs.{grown, turns_cost}
-use Rattle.stack_machine.specs.Instructions.{Instruction, Store, Jump, LoopNext, LoopNext2, LoopTest}
-use Rattle.stack_machine.specs.Locals.{with_local}
-use Rattle.stack_machine.specs.Machine as machine
-use Rattle.stack_machine.specs.Machine.{OpenLoop, element, pair}
+use Rattle.machine_code.specs.Instructions.{Instruction, Store, Jump, LoopNext, LoopNext2, LoopTest}
+use Rattle.machine_code.specs.Locals.{with_local}
+use Rattle.machine_code.specs.Machine as machine
+use Rattle.machine_code.specs.Machine.{OpenLoop, element, pair}
 use Rattle.cel_compile.specs.Codes.{turn_instruction}
 use Rattle.cel_compile.proofs.Goes.{Holds, holds_less, holds_more, at, state, turned, Point, Goes, then_goes, at_most, forget, one, plain, stores}
 

@@ -6,9 +6,9 @@ use Rattle.cel_ops.specs.Logic.{conjunction, disjunction}
 use Rattle.cel_overload.specs.Answers.{conditional}
 use Rattle.cel_ops.specs.declared.operation.Operation.TheVariants as operations
 use Rattle.cel_overload.specs.declared.overload.Overload.TheVariants as overloads
-use Rattle.stack_machine.specs.Instructions.{Instruction, Operate, Jump, IfFalse, IfTrue, Test}
-use Rattle.stack_machine.specs.Charges.{charge_on}
-use Rattle.stack_machine.specs.Machine.{OpenLoop, act, goes}
+use Rattle.machine_code.specs.Instructions.{Instruction, Operate, Jump, IfFalse, IfTrue, Test}
+use Rattle.machine_code.specs.Charges.{charge_on}
+use Rattle.machine_code.specs.Machine.{OpenLoop, act, goes}
 use Rattle.cel_compile.proofs.Goes.{Locals, state, at, Goes, then_goes, at_most, plain}
 use Rattle.cel_compile.proofs.Calls.{Makes, pushed_all, call_makes}
 

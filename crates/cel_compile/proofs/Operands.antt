@@ -12,8 +12,8 @@ use Rattle.cel_types.specs.Elaborated.{TypedTree, TypedTrees, typed_constant, ty
 use Rattle.cel_types.specs.View.{expr_view}
 use Rattle.cel_types.specs.steps.ExprViews.{exprs_view}
 use Rattle.cel_types.specs.declared.typed.TypedExpr.{TypedExpr}
-use Rattle.stack_machine.specs.Instructions.{code_view, instr_view, MakeList, MakeMap}
-use Rattle.stack_machine.specs.declared.instr.Instr.{Instr}
+use Rattle.machine_code.specs.Instructions.{code_view, instr_view, MakeList, MakeMap}
+use Rattle.machine_code.specs.declared.instr.Instr.{Instr}
 use Rattle.cel_compile.specs.Codes.{count, instruction_of, list_instruction, map_instruction, pairs}
 use Rattle.cel_compile.specs.steps.Extents.{extent, extents}
 use Rattle.cel_compile.specs.Slots.{HasFewLocals, HaveFewLocals}

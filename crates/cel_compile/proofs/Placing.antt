@@ -8,7 +8,7 @@ use Rattle.cel_types.specs.Elaborated.{TypedTree, typed_constant, typed_local, t
 use Rattle.cel_types.specs.Names.{variable_count}
 use Rattle.cel_types.specs.declared.typed.Variables.{Variables}
 use Rattle.cel_value.specs.Types.{ValueType}
-use Rattle.stack_machine.specs.Instructions.{Instruction, Const, Attr, Load, Store, Operate, Field, HasField, Jump, IfFalse, IfTrue, Test, LoopStart, LoopTest}
+use Rattle.machine_code.specs.Instructions.{Instruction, Const, Attr, Load, Store, Operate, Field, HasField, Jump, IfFalse, IfTrue, Test, LoopStart, LoopTest}
 use Rattle.cel_compile.specs.Codes.{instruction_of, list_instruction, map_instruction, turn_instruction, code_of, codes_of}
 use Rattle.cel_compile.specs.steps.Extents.{extent, extents}
 

@@ -4,11 +4,11 @@ use Rattle.std.proofs.Common.{◌≡◌, ℕ, zero, suc, ◌+◌, ◌<◌, ◌�
 use Rattle.std.specs.List.{AllByRecursion}
 use Rattle.std.proofs.lemmas.Bool.{cases_lt}
 use Rattle.std.proofs.lemmas.Bool.Decides.{nat_tests}
-use Rattle.stack_machine.specs.Instructions.{Instruction}
-use Rattle.stack_machine.specs.Shapes.{Serves, Shape, Way, ways}
-use Rattle.stack_machine.specs.Typable.{AllServe, Leads, LeadsOn, Least, SomeEnds, Table, ways_at, ways_before, ways_found}
+use Rattle.machine_code.specs.Instructions.{Instruction}
+use Rattle.machine_code.specs.Shapes.{Serves, Shape, Way, ways}
+use Rattle.machine_code.specs.Typable.{AllServe, Leads, LeadsOn, Least, SomeEnds, Table, ways_at, ways_before, ways_found}
 use Rattle.cel_compile.proofs.Leading.{to}
-pub use Rattle.stack_machine.proofs.Fitting.{slots_refl, slots_trans, serves_trans, serve_front}
+pub use Rattle.machine_code.proofs.Fitting.{slots_refl, slots_trans, serves_trans, serve_front}
 
 -- ---- shapes that serve
 

@@ -25,8 +25,8 @@ use Rattle.cel_types.proofs.WellTypedAnswers.{all_have_types, answer_typed, answ
 use Rattle.cel_costs.specs.Costs.{charge_at, cost_of, costs_of, grown, map_cost, size_of, sizes_of, total, turns_cost, variable_sizes}
 use Rattle.cel_costs.specs.Sizes.{AllWithin, Size, Within, most_of}
 use Rattle.cel_costs.proofs.Within.{all_within_more}
-use Rattle.stack_machine.specs.Instructions.{Instruction, Const, Attr, Load, Store, Field, HasField, LoopStart, MakeList, MakeMap}
-use Rattle.stack_machine.specs.Machine.{OpenLoop, gives, opened}
+use Rattle.machine_code.specs.Instructions.{Instruction, Const, Attr, Load, Store, Field, HasField, LoopStart, MakeList, MakeMap}
+use Rattle.machine_code.specs.Machine.{OpenLoop, gives, opened}
 use Rattle.cel_compile.specs.Codes.{count, instruction_of, list_instruction, map_instruction, pairs}
 use Rattle.cel_compile.proofs.Answering.{before_some, then_some}
 use Rattle.cel_compile.proofs.Bounds.{Bounds}

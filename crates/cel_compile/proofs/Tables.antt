@@ -5,11 +5,11 @@ use Rattle.cel_ops.specs.declared.operation.Operation.TheVariants as operations
 use Rattle.cel_overload.specs.declared.overload.Overload.TheVariants as overloads
 use Rattle.cel_types.specs.Elaborated.{TypedTree, typed_constant, typed_local, typed_attribute, typed_field, typed_has, typed_call, typed_list, typed_map, typed_loop, TypedTrees, no_typed, typed, kind, kinds}
 use Rattle.cel_types.specs.Names.{variable_count}
-use Rattle.stack_machine.specs.Instructions.{Instruction}
-use Rattle.stack_machine.specs.Locals.{with_local}
-use Rattle.stack_machine.specs.Shapes.{Shape}
-use Rattle.stack_machine.specs.Slots.{Slot, of}
-use Rattle.stack_machine.specs.Typable.{Table}
+use Rattle.machine_code.specs.Instructions.{Instruction}
+use Rattle.machine_code.specs.Locals.{with_local}
+use Rattle.machine_code.specs.Shapes.{Shape}
+use Rattle.machine_code.specs.Slots.{Slot, of}
+use Rattle.machine_code.specs.Typable.{Table}
 use Rattle.cel_compile.proofs.Leading.{locals_of, pushed, shape, walked}
 use Rattle.cel_compile.proofs.Placing.{Placed, PlacedAll}
 use Rattle.cel_compile.proofs.Settling.{cut, spot}

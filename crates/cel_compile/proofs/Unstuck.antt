@@ -3,8 +3,8 @@ use Rattle.std.proofs.Common.{[]}
 use Rattle.attributes.specs.Request.{IsRequest, RequestValue}
 use Rattle.cel_types.specs.Elaborated.{TypedTree, kind}
 use Rattle.cel_types.specs.WellTyped.{IsWellTyped}
-use Rattle.stack_machine.specs.Machine.{NeverStuck}
-use Rattle.stack_machine.proofs.Sound.{never_stuck_lem}
+use Rattle.machine_code.specs.Machine.{NeverStuck}
+use Rattle.machine_code.proofs.Sound.{never_stuck_lem}
 use Rattle.cel_compile.specs.Codes.{code_of}
 use Rattle.cel_compile.proofs.Forwards.{code_is_forward}
 

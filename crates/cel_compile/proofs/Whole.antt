@@ -5,8 +5,8 @@ use Rattle.attributes.specs.Request.{IsRequest, RequestValue}
 use Rattle.cel_types.specs.Elaborated.{TypedTree}
 use Rattle.cel_types.specs.WellTyped.{IsWellTyped}
 use Rattle.cel_types.proofs.WellTypedAnswers.{answer_typed}
-use Rattle.stack_machine.specs.Instructions.{Instruction}
-use Rattle.stack_machine.specs.Machine.{RunReaches, begins, start}
+use Rattle.machine_code.specs.Instructions.{Instruction}
+use Rattle.machine_code.specs.Machine.{RunReaches, begins, start}
 use Rattle.cel_compile.specs.Codes.{code_of}
 use Rattle.cel_compile.specs.steps.Extents.{extent}
 use Rattle.cel_compile.specs.Sound.{IsSound, RunsTo}

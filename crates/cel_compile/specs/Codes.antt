@@ -10,7 +10,7 @@ use Rattle.cel_types.specs.Elaborated.{TypedTree, typed_constant, typed_local, t
 use Rattle.cel_types.specs.Names.{variable_count}
 use Rattle.cel_types.specs.declared.typed.Variables.{Variables}
 use Rattle.cel_types.specs.declared.typed.Variables.TheVariants as variables
-use Rattle.stack_machine.specs.Instructions.{Instruction, Const, Attr, Load, Store, Operate, Field, HasField, MakeList, EmptyList, MakeMap, EmptyMap, Jump, IfFalse, IfTrue, Test, LoopStart, LoopNext, LoopNext2, LoopTest}
+use Rattle.machine_code.specs.Instructions.{Instruction, Const, Attr, Load, Store, Operate, Field, HasField, MakeList, EmptyList, MakeMap, EmptyMap, Jump, IfFalse, IfTrue, Test, LoopStart, LoopNext, LoopNext2, LoopTest}
 
 -- the instruction of a call on its operands' answers. No well typed expression uses the one of a conditional,
 -- since a conditional has three operands and jumps

@@ -10,8 +10,8 @@ use Rattle.cel_types.specs.Meaning.{eval}
 use Rattle.cel_types.specs.TypedMeaning.{typed_answer}
 use Rattle.cel_costs.specs.Costs.{cost_of, size_of}
 use Rattle.cel_costs.specs.Sizes.{Within}
-use Rattle.stack_machine.specs.Instructions.{Instruction}
-use Rattle.stack_machine.specs.Machine.{Ends}
+use Rattle.machine_code.specs.Instructions.{Instruction}
+use Rattle.machine_code.specs.Machine.{Ends}
 
 -- the code's run on a request ends with the expression's answer, of the expression's type and within its
 -- size. The steps are at most the expression's cost by the limits

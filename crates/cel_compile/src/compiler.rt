@@ -14,9 +14,9 @@ ghost use Rattle.cel_types.specs.View.{expr_view, loop_of, typed_view};
 ghost use Rattle.cel_types.specs.steps.ExprViews.{exprs_view, parts_view};
 ghost use Rattle.cel_types.specs.WellTyped.{IsWellTyped};
 ghost use Rattle.proto_wire.specs.Refusal.{MemoryOr};
-ghost use Rattle.stack_machine.specs.Instructions.{code_view, instr_view};
-ghost use Rattle.stack_machine.specs.Machine.{NeverStuck};
-ghost use Rattle.stack_machine.specs.Typable.{Forward};
+ghost use Rattle.machine_code.specs.Instructions.{code_view, instr_view};
+ghost use Rattle.machine_code.specs.Machine.{NeverStuck};
+ghost use Rattle.machine_code.specs.Typable.{Forward};
 ghost use Rattle.cel_compile.specs.Codes.{code_of};
 ghost use Rattle.cel_compile.specs.Slots.{HasFewLocals};
 ghost use Rattle.cel_compile.specs.Sound.{IsSound, RunsToMeaning};
@@ -31,8 +31,8 @@ use crate::instructions::{
 use crate::lengths::{Lengths, measure, take_targets};
 use cel_overload::Overload;
 use cel_types::{Typed, TypedExpr, TypedLoop};
+use machine_code::{Code, CodeFault, Instr};
 use proto_wire::Refusal;
-use stack_machine::{Code, CodeFault, Instr};
 use std::alloc::{AllocError, Global};
 
 /// Compiles an expression to code, which shares the expression's texts.

@@ -10,7 +10,7 @@ use Rattle.cel_types.specs.Names.{variable_count}
 use Rattle.cel_types.specs.View.{expr_view, loop_of}
 use Rattle.cel_types.specs.steps.ExprViews.{exprs_view, parts_view}
 use Rattle.cel_types.specs.declared.typed.TypedExpr as exprs
-use Rattle.stack_machine.specs.declared.instr.Instr.TheVariants as instrs
+use Rattle.machine_code.specs.declared.instr.Instr.TheVariants as instrs
 use Rattle.cel_compile.specs.declared.lengths.Lengths.{Lengths}
 use Rattle.cel_compile.specs.steps.Extents.{extent}
 use Rattle.cel_compile.specs.steps.Emitting.{Grows, GrowsAll, HasRoom}

@@ -1,6 +1,6 @@
 use Rattle.std.proofs.lemmas.Result.{MatchResult-weaker}
 use Rattle.cel_types.specs.View.{typed_view}
-use Rattle.stack_machine.specs.Instructions.{code_view}
+use Rattle.machine_code.specs.Instructions.{code_view}
 use Rattle.cel_compile.proofs.Forwards.{code_is_forward}
 use Rattle.cel_compile.proofs.Meaning.{code_means}
 use Rattle.cel_compile.proofs.Short.{refused_length, room_alone}

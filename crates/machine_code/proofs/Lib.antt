@@ -1,0 +1,14 @@
+pub mod Places
+pub mod Tops
+pub mod Fitting
+pub mod Asked
+pub mod Forms
+pub mod KeptScalars
+pub mod KeptItems
+pub mod KeptMaps
+pub mod KeptPairs
+pub mod KeptAttributes
+pub mod SoundSteps
+pub mod Sound
+pub mod Chains
+pub mod Growing
