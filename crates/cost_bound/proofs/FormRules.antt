@@ -16,7 +16,7 @@ use Rattle.cel_types.specs.steps.ExprViews.{exprs_view}
 use Rattle.cel_types.specs.declared.typed.TypedExpr.{TypedExpr}
 use Rattle.cost_bound.proofs.Steps.{as_many, cost_count}
 use Rattle.cel_value.specs.Types.{ValueType}
-use Rattle.cel_costs.specs.Costs.{call_cost, call_size, cost_of, costs_of, counted_cost, join_all, size_of, sizes_of, total}
+use Rattle.cel_costs.specs.Costs.{call_cost, call_size, cost_of, costs_of, counted_cost, join_all, size_of, sizes_of, total, value_size}
 use Rattle.cel_costs.specs.Sizes.{Size, Text, Many, join, mass_of, most_of}
 use Rattle.cost_bound.specs.steps.Formulas.{AreItems, FormulaTree, fixed, either, both, Gets, HasShape, IsForm, SameNumbers, ShapeTree, flat, lengthy, items, given}
 use Rattle.cost_bound.specs.declared.numbers.Gives.{Gives}
@@ -86,12 +86,12 @@ module _ (r p q : FormulaTree) (left right : ShapeTree) (t : ValueType) (x y : T
       let second : u ≡ Text k = rw other at hu in
       (rw (first, second) refl, rw (first, second) (omega arith)))
 
-  pub index_form : (n : ℕ) (each : ShapeTree) → left ≡ items n each → SameNumbers r (both p q 1 0 gives.First)
-      → IsForm r each (typed_call t (overloads.Operate operations.ListIndex) (typed x (typed y no_typed))) l
-  index_form n each is same = pair_form (overloads.Operate operations.ListIndex) 1 0 gives.First each same
-      (λ ss s u a b m k hs hu.
-      let list : HasShape (items n each) m ss s = rw is at hs in
-      (rw list.1 list.2, omega arith))
+  pub index_form : (sh : ShapeTree)
+      → ((m : ℕ) (ss : List Size) (s : Size) → HasShape left m ss s → HasShape sh m ss (value_size s))
+      → SameNumbers r (both p q 1 0 gives.First)
+      → IsForm r sh (typed_call t (overloads.Operate operations.ListIndex) (typed x (typed y no_typed))) l
+  index_form sh inside same = pair_form (overloads.Operate operations.ListIndex) 1 0 gives.First sh same
+      (λ ss s u a b m k hs hu. (inside m ss s hs, omega arith))
 
 fixed_gets : (q : FormulaTree) (n : ℕ) → q ≡ fixed 0 n → (ss : List Size) → Gets q lengthy ss (Text n) 0
 fixed_gets q n is ss = rw is (λ named. (refl, refl))

@@ -2,10 +2,10 @@
 use Rattle.std.proofs.Common.{◌≡◌, ℕ, ◌+◌, ◌<◌, List, [], ◌∷◌, ◌++◌, length, drop, get_or, max, refl, sym, ap, ◌∙◌, arith}
 use Rattle.std.proofs.lemmas.List.{at_drop_more}
 use Rattle.cel_types.specs.TypedMeaning.{local_at}
-use Rattle.cel_costs.specs.Costs.{known}
+use Rattle.cel_costs.specs.Costs.{known, value_size}
 use Rattle.cel_costs.specs.Sizes.{Size, Flat, Text, Many, Table, join}
 use Rattle.cost_bound.specs.steps.Formulas.{joined}
-use Rattle.cost_bound.proofs.Neighbours.{join_again, many_of, table_of}
+use Rattle.cost_bound.proofs.Joins.{join_again, many_of, table_of}
 
 -- nothing more joined
 pub join_flat : (s : Size) → join s Flat ≡ s
@@ -13,6 +13,22 @@ join_flat Flat = refl
 join_flat (Text n) = refl
 join_flat (Many n e) = refl
 join_flat (Table n k v) = refl
+
+-- an item of two sizes joined
+pub value_join : (s t : Size) → value_size (join s t) ≡ join (value_size s) (value_size t)
+value_join Flat t = refl
+value_join (Text n) Flat = refl
+value_join (Text n) (Text m) = refl
+value_join (Text n) (Many m f) = refl
+value_join (Text n) (Table m j w) = refl
+value_join (Many n e) Flat = sym (join_flat e)
+value_join (Many n e) (Text m) = sym (join_flat e)
+value_join (Many n e) (Many m f) = refl
+value_join (Many n e) (Table m j w) = refl
+value_join (Table n k v) Flat = sym (join_flat v)
+value_join (Table n k v) (Text m) = sym (join_flat v)
+value_join (Table n k v) (Many m f) = refl
+value_join (Table n k v) (Table m j w) = refl
 
 max_swap : (n m : ℕ) → max n m ≡ max m n
 max_swap n m = omega arith

@@ -8,7 +8,8 @@ pub mod Places
 pub mod Steps
 pub mod Counting
 pub mod Alike
-pub mod Neighbours
+pub mod Joins
+pub mod Choices
 pub mod Pairs
 pub mod MemoViews
 pub mod Remembering

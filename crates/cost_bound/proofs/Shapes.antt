@@ -3,10 +3,11 @@ use Rattle.std.proofs.Common.{◌≡◌, ℕ, ◌+◌, List, [], max, refl, sym,
 use Rattle.std.specs.declared.rc.Rc.{Rc}
 use Rattle.std.specs.declared.vec.Vec.{Vec}
 use Rattle.std.specs.declared.alloc.Global.{Global}
+use Rattle.cel_costs.specs.Costs.{value_size}
 use Rattle.cel_costs.specs.Sizes.{Size, join, mass_of}
-use Rattle.cost_bound.specs.steps.Formulas.{ShapeTree, flat, lengthy, joins, items, HasShape, joined, shape_view}
-use Rattle.cost_bound.specs.declared.shape.Shape.{Shape, Flat as FlatShape, Text as TextShape, Joined, Items, the_lemmas}
-use Rattle.cost_bound.proofs.Forms.{join_flat, join_swap}
+use Rattle.cost_bound.specs.steps.Formulas.{ShapeTree, flat, lengthy, joins, items, item, HasShape, joined, shape_view}
+use Rattle.cost_bound.specs.declared.shape.Shape.{Shape, Flat as FlatShape, Text as TextShape, Joined, Items, Item, the_lemmas}
+use Rattle.cost_bound.proofs.Forms.{join_flat, join_swap, value_join}
 
 pub view_flat : shape_view FlatShape ≡ flat
 view_flat = search (rules, the_lemmas)
@@ -19,6 +20,18 @@ view_joined ns = search (rules, the_lemmas)
 
 pub view_items : (n : ℕ) (s : Rc Shape Global) → shape_view (Items n s) ≡ items n (shape_view s.value)
 view_items n s = search (rules, the_lemmas)
+
+pub view_item : (s : Rc Shape Global) → shape_view (Item s) ≡ item (shape_view s.value)
+view_item s = search (rules, the_lemmas)
+
+-- an item of a list literal, and of another list
+pub item_listed : (c n : ℕ) (each : ShapeTree) (ss : List Size) (s : Size) → HasShape (items c each) n ss s
+    → HasShape each n ss (value_size s)
+item_listed c n each ss s h = rw h.1 h.2
+
+pub item_within : (sh : ShapeTree) (n : ℕ) (ss : List Size) (s : Size) → HasShape sh n ss s
+    → HasShape (item sh) n ss (value_size s)
+item_within sh n ss s h = (s, refl, h)
 
 -- the mass of what is flat, or a text
 pub flat_mass : (n : ℕ) (ss : List Size) (s : Size) → HasShape flat n ss s → mass_of s ≡ 1 + n
@@ -58,3 +71,9 @@ module _ (m n : ℕ) (ss : List Size) (s t : Size) where
       → HasShape (items (max c d) each) (max m n) ss (join s t)
   lists c d a b each h one other =
       (join one.0 other.0, rw (one.1, other.1) refl, h one.0 other.0 one.2 other.2)
+
+  pub items_within : (a b both : ShapeTree) → ((e f : Size) → HasShape a m ss e → HasShape b n ss f
+      → HasShape both (max m n) ss (join e f)) → HasShape (item a) m ss s → HasShape (item b) n ss t
+      → HasShape (item both) (max m n) ss (join s t)
+  items_within a b both h one other =
+      (join one.0 other.0, rw (one.1, other.1) (sym (value_join one.0 other.0)), h one.0 other.0 one.2 other.2)

@@ -3,6 +3,6 @@
 pub mod Numbers
 pub mod SizeView
 pub mod ScopeView
-pub mod Measuring
 pub mod Formulas
 pub mod Memos
+pub mod Measuring

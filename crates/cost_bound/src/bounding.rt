@@ -15,6 +15,7 @@ ghost use Rattle.cel_costs.specs.Reaches.{Reaches};
 ghost use Rattle.cel_costs.specs.Sizes.{AllWithin, Size, Within};
 
 use crate::measure::measure;
+use crate::measuring::Measuring;
 use crate::scope::Scope;
 use crate::survey::first_memo;
 use attributes::Limits;
@@ -44,6 +45,10 @@ pub fn bound(alloc: Global, typed: &Typed<'_>, limits: &Limits, budget: u64) -> 
 {
     let scope = Scope::Empty;
     let memo = first_memo(alloc, &typed.root, limits)?;
-    let measured = measure(alloc, &typed.root, limits, &scope, Some(&memo), budget)?;
+    let at = Measuring {
+        limits,
+        scope: &scope,
+    };
+    let measured = measure(alloc, &typed.root, at, Some(&memo), budget)?;
     Ok(budget - measured.left)
 }

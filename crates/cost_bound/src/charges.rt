@@ -1,6 +1,6 @@
 //! The charges of instructions, and their payment from a budget.
 
-ghost use Rattle.std.specs.Prelude.{◌≡◌, ◌≢◌, ◌+◌, ◌-◌, ◌*◌, List, [], ◌∷◌, IfErr, IfOk};
+ghost use Rattle.std.specs.Prelude.{◌≡◌, ◌≢◌, ◌+◌, ◌-◌, ◌*◌, ◌↔◌, List, [], ◌∷◌, IfErr, IfOk, IsTrue, length};
 ghost use Rattle.cel_ops.specs.declared.operation.Operation.TheVariants as operations;
 ghost use Rattle.cel_overload.specs.declared.overload.Overload.TheVariants as overloads;
 ghost use Rattle.cel_types.specs.Elaborated.{kind, kinds};
@@ -89,7 +89,20 @@ fn converted_part(op: Operation, size: &ValueSize) -> u64
 {
     match op {
         Operation::Convert(kind) => conversion_part(kind, size),
-        _ => 0,
+        Operation::Arithmetic(_) => 0,
+        Operation::Negate => 0,
+        Operation::Not => 0,
+        Operation::NotStrictlyFalse => 0,
+        Operation::And => 0,
+        Operation::Or => 0,
+        Operation::Compare(_) => 0,
+        Operation::TestText(_) => 0,
+        Operation::Concat => 0,
+        Operation::Size => 0,
+        Operation::ListIndex => 0,
+        Operation::MapIndex => 0,
+        Operation::InMap => 0,
+        Operation::InList => 0,
     }
 }
 
@@ -163,6 +176,19 @@ fn operation_part(op: Operation, first: &ValueSize, second: &ValueSize) -> u64
         Operation::MapIndex => product(second.mass(), first.most()),
         Operation::InMap => product(first.mass(), second.most()),
         Operation::InList => sum(second.mass(), product(second.most(), first.mass())),
-        _ => 0,
+        Operation::Arithmetic(_) => 0,
+        Operation::Negate => 0,
+        Operation::Not => 0,
+        Operation::NotStrictlyFalse => 0,
+        Operation::Size => 0,
+        Operation::ListIndex => 0,
+        Operation::Convert(_) => 0,
     }
+}
+
+/// Whether the call is a conditional, which evaluates only one of its last two operands.
+pub(crate) fn is_choice(overload: Overload, operands: &[TypedExpr<'_>]) -> bool
+    ensures { IsTrue result ↔ ((overload ≡ overloads.Conditional) × (length operands.now ≡ 3)) }
+{
+    overload == Overload::Conditional && operands.len() == 3
 }

@@ -23,7 +23,9 @@ pub(crate) fn constant_size(constant: &Constant) -> ValueSize
     match constant {
         Constant::Text(text) => ValueSize::Text(text_length(text)),
         Constant::Bytes(bytes) => ValueSize::Text(bytes.len() as u64),
-        _ => ValueSize::Flat,
+        Constant::Bool(_) => ValueSize::Flat,
+        Constant::Int(_) => ValueSize::Flat,
+        Constant::Uint(_) => ValueSize::Flat,
     }
 }
 

@@ -48,7 +48,20 @@ fn single_size(op: Operation, size: &ValueSize) -> ValueSize
 {
     match op {
         Operation::Convert(kind) => converted_size(kind, size),
-        _ => ValueSize::Flat,
+        Operation::Arithmetic(_) => ValueSize::Flat,
+        Operation::Negate => ValueSize::Flat,
+        Operation::Not => ValueSize::Flat,
+        Operation::NotStrictlyFalse => ValueSize::Flat,
+        Operation::And => ValueSize::Flat,
+        Operation::Or => ValueSize::Flat,
+        Operation::Compare(_) => ValueSize::Flat,
+        Operation::TestText(_) => ValueSize::Flat,
+        Operation::Concat => ValueSize::Flat,
+        Operation::Size => ValueSize::Flat,
+        Operation::ListIndex => ValueSize::Flat,
+        Operation::MapIndex => ValueSize::Flat,
+        Operation::InMap => ValueSize::Flat,
+        Operation::InList => ValueSize::Flat,
     }
 }
 
@@ -81,7 +94,18 @@ fn pair_size(
         Operation::Concat => concat_size(alloc, first, second),
         Operation::ListIndex => first.value(),
         Operation::MapIndex => first.value(),
-        _ => Ok(ValueSize::Flat),
+        Operation::Arithmetic(_) => Ok(ValueSize::Flat),
+        Operation::Negate => Ok(ValueSize::Flat),
+        Operation::Not => Ok(ValueSize::Flat),
+        Operation::NotStrictlyFalse => Ok(ValueSize::Flat),
+        Operation::And => Ok(ValueSize::Flat),
+        Operation::Or => Ok(ValueSize::Flat),
+        Operation::Compare(_) => Ok(ValueSize::Flat),
+        Operation::TestText(_) => Ok(ValueSize::Flat),
+        Operation::Size => Ok(ValueSize::Flat),
+        Operation::InMap => Ok(ValueSize::Flat),
+        Operation::InList => Ok(ValueSize::Flat),
+        Operation::Convert(_) => Ok(ValueSize::Flat),
     }
 }
 
@@ -99,22 +123,39 @@ fn concat_size(
     Ok(joined.resized(sum(first.most(), second.most())))
 }
 
-/// The size of a list literal of so many items, whose sizes are joined; if it is empty, the least
-/// of its type.
+/// The size of a list literal, by the sizes of its items; if it is empty, the least of its type.
 pub(crate) fn list_size(
     alloc: Global,
     cel_type: &CelType,
-    count: u64,
-    joined: ValueSize,
+    sizes: &[ValueSize],
 ) -> Result<ValueSize, AllocError>
-    ensures { IfOk result (λ size. (sizes : List Size) → count ≡ length sizes
-        → size_view joined ≡ join_all sizes
-        → size_view size ≡ list_size (type_view cel_type.now) sizes) }
+    ensures { IfOk result (λ size. size_view size
+        ≡ list_size (type_view cel_type.now) (sizes_view sizes.now)) }
 {
-    if count == 0 {
+    if sizes.is_empty() {
         return least(alloc, cel_type);
     }
-    many(alloc, count, joined)
+    let joined = join_each(alloc, sizes)?;
+    many(alloc, item_count(sizes), joined)
+}
+
+// Joins sizes, from the last to the first.
+fn join_each(alloc: Global, sizes: &[ValueSize]) -> Result<ValueSize, AllocError>
+    ensures { IfOk result (λ joined. size_view joined ≡ join_all (sizes_view sizes.now)) }
+{
+    let mut joined = ValueSize::Flat;
+    let mut at = sizes.len();
+    while at > 0 {
+        at -= 1;
+        joined = join(alloc, &sizes[at], &joined)?;
+    }
+    Ok(joined)
+}
+
+fn item_count(sizes: &[ValueSize]) -> u64
+    ensures { result ≡ length (sizes_view sizes.now) }
+{
+    sizes.len() as u64
 }
 
 /// The size of a map literal, by the sizes of its keys and values in turn; if it is empty, the

@@ -5,7 +5,7 @@ ghost use Rattle.proto_wire.specs.Refusal.{MemoryOr};
 ghost use Rattle.attributes.specs.Limits.{LimitsValue};
 ghost use Rattle.cel_types.specs.Elaborated.{TypedTree};
 ghost use Rattle.cel_costs.specs.Costs.{cost_of, size_of};
-ghost use Rattle.cost_bound.specs.steps.Measuring.{CostsMore};
+ghost use Rattle.cost_bound.specs.steps.Measuring.{CostsMore, Finds};
 ghost use Rattle.cost_bound.specs.steps.Memos.{Says, known_view, memo_view};
 ghost use Rattle.cost_bound.specs.steps.ScopeView.{IsCounted, locals_view, scope_view};
 ghost use Rattle.cost_bound.specs.steps.SizeView.{size_view};
@@ -25,13 +25,20 @@ pub(crate) struct Measured {
     pub(crate) left: u64,
 }
 
-/// The items of a list literal from one of them on: their sizes joined, the cost of that one, and the
-/// budget left after all.
+/// The sizes of expressions, in order, and the budget left after all.
 #[derive(Drop)]
-pub(crate) struct MeasuredItems {
-    pub(crate) size: ValueSize,
-    pub(crate) cost: u64,
+pub(crate) struct MeasuredEach {
+    pub(crate) sizes: Vec<ValueSize>,
     pub(crate) left: u64,
+}
+
+/// The result of an expression of one step, of this size.
+pub(crate) fn leaf(size: ValueSize, left: u64) -> Result<Measured, Refusal>
+    ensures found { IfOk result (Finds (size_view size) 1 left) }
+    ensures fault { IfErr result (MemoryOr (CostsMore 1 left)) }
+{
+    let left = pay(left, 0)?;
+    Ok(Measured { size, left })
 }
 
 /// The result of an expression, if its memo has the size and the cost; pays the cost. Otherwise

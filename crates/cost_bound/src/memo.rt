@@ -1,10 +1,11 @@
 //! Memos: what is known of an expression and of its parts before it is measured.
 
-ghost use Rattle.std.specs.Prelude.{◌≡◌, ◌<◌, ◌≤◌, ◌+◌, ℕ, List, IfOk, IsTrue, length};
+ghost use Rattle.std.specs.Prelude.{◌≡◌, ◌<◌, ◌≤◌, ◌+◌, ℕ, List, IfOk, IfSome, IsTrue, length};
 ghost use Rattle.attributes.specs.Limits.{LimitsValue};
 ghost use Rattle.cel_types.specs.Elaborated.{TypedTree};
 ghost use Rattle.cel_costs.specs.Sizes.{Size};
-ghost use Rattle.cost_bound.specs.steps.Memos.{Says, known_view, memo_at, memo_view, memos_view, nothing_known, part_at};
+ghost use Rattle.cost_bound.specs.steps.Formulas.{formula_view, shape_view};
+ghost use Rattle.cost_bound.specs.steps.Memos.{FormAt, Says, formed, known_view, memo_at, memo_view, memos_view, nothing_known, part_at};
 
 use crate::form::Form;
 use crate::size::ValueSize;
@@ -104,4 +105,28 @@ fn is_unknown(memo: &Memo) -> bool
     ensures { IsTrue result → memo_view memo.now ≡ nothing_known }
 {
     matches!(memo, Memo::Unknown)
+}
+
+/// The form that the memo of the part at a place has.
+pub(crate) fn form_at(memo: &Memo, place: usize) -> Option<&Form>
+    ensures { IfSome result (λ form. FormAt (memo_view memo.now) place form.now) }
+{
+    match part_of(memo, place) {
+        Some(found) => form_of(found),
+        None => None,
+    }
+}
+
+/// The form that a memo has.
+pub(crate) fn form_of(memo: &Memo) -> Option<&Form>
+    ensures { IfSome result (λ form. memo_view memo.now ≡ formed (formula_view form.now.formula.value)
+        (shape_view form.now.shape)) }
+{
+    match memo {
+        Memo::Formed(form) => Some(&**form),
+        Memo::Unknown => None,
+        Memo::Known { .. } => None,
+        Memo::Costly { .. } => None,
+        Memo::Parts(_) => None,
+    }
 }

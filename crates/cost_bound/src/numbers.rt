@@ -283,7 +283,9 @@ fn fixed_numbers(formula: &Formula) -> Option<Numbers>
             cost: *cost,
             length: *length,
         }),
-        _ => None,
+        Formula::Local { .. } => None,
+        Formula::Either(_, _) => None,
+        Formula::Both { .. } => None,
     }
 }
 

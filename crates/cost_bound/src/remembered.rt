@@ -5,7 +5,7 @@ ghost use Rattle.proto_wire.specs.Refusal.{MemoryOr};
 ghost use Rattle.proto_wire.specs.declared.refusal.Refusal.TheVariants.{Memory};
 ghost use Rattle.cel_costs.specs.Sizes.{Size};
 ghost use Rattle.cost_bound.specs.steps.Measuring.{CostsMore};
-ghost use Rattle.cost_bound.specs.steps.Memos.{IsTold, memo_view};
+ghost use Rattle.cost_bound.specs.steps.Memos.{IsTold, memo_view, nothing_known};
 ghost use Rattle.cost_bound.specs.steps.SizeView.{size_view};
 
 use crate::measured::Measured;
@@ -61,4 +61,49 @@ pub(crate) fn budget_at(choice: bool, place: usize, before: u64, rest: u64) -> u
         return before;
     }
     rest
+}
+
+/// The budgets of parts in order.
+#[derive(Clone, Copy)]
+pub(crate) struct Budgets {
+    choice: bool,
+    before: u64,
+    pub(crate) left: u64,
+}
+
+impl Budgets {
+    /// The budgets of parts of which the last two may be the branches of a choice.
+    pub(crate) fn new(choice: bool, left: u64) -> Budgets {
+        Budgets {
+            choice,
+            before: left,
+            left,
+        }
+    }
+
+    /// The budget of the part at a place.
+    pub(crate) fn at(self, place: usize) -> u64 {
+        budget_at(self.choice, place, self.before, self.left)
+    }
+
+    /// The budgets after one more part, which left so much.
+    pub(crate) fn after(self, left: u64) -> Budgets {
+        Budgets {
+            choice: self.choice,
+            before: self.left,
+            left: self.left.min(left),
+        }
+    }
+}
+
+impl Remembered {
+    /// Nothing is remembered.
+    pub(crate) fn nothing(left: u64) -> Remembered
+        ensures { memo_view result.memo ≡ nothing_known }
+    {
+        Remembered {
+            memo: Memo::Unknown,
+            left,
+        }
+    }
 }

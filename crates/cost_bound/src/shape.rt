@@ -2,7 +2,7 @@
 
 ghost use Rattle.std.specs.Prelude.{◌≡◌, ◌+◌, ℕ, IfOk, IfSome, IsTrue, List, max};
 ghost use Rattle.cel_types.specs.TypedMeaning.{local_at};
-ghost use Rattle.cel_costs.specs.Costs.{known};
+ghost use Rattle.cel_costs.specs.Costs.{known, value_size};
 ghost use Rattle.cel_costs.specs.Sizes.{Size, join, mass_of};
 ghost use Rattle.cost_bound.specs.steps.Formulas.{HasShape, flat, joined, lengthy, shape_view};
 ghost use Rattle.cost_bound.specs.steps.ScopeView.{IsCounted, locals_view, scope_view};
@@ -24,6 +24,8 @@ pub(crate) enum Shape {
     Joined(Rc<Vec<u8>>),
     /// Of a list of so many items, of this shape each.
     Items(u64, Rc<Shape>),
+    /// Of an item of a list, or of a value of a map. The list or the map has this shape.
+    Item(Rc<Shape>),
 }
 
 impl Shape {
@@ -36,6 +38,7 @@ impl Shape {
             Shape::Text => Ok(Shape::Text),
             Shape::Joined(locals) => Ok(Shape::Joined(locals.clone()?)),
             Shape::Items(count, items) => Ok(Shape::Items(*count, items.clone()?)),
+            Shape::Item(list) => Ok(Shape::Item(list.clone()?)),
         }
     }
 
@@ -49,6 +52,7 @@ impl Shape {
             Shape::Text => true,
             Shape::Joined(_) => false,
             Shape::Items(_, _) => false,
+            Shape::Item(_) => false,
         }
     }
 
@@ -86,7 +90,22 @@ pub(crate) fn size_by(
             let each = size_by(alloc, items, length, scope)?;
             many(alloc, *count, each)
         }
+        Shape::Item(list) => {
+            let whole = size_by(alloc, list, length, scope)?;
+            whole.value()
+        }
     }
+}
+
+/// The shape of an item's size, by the shape of the list's.
+pub(crate) fn item_shape(alloc: Global, list: &Shape) -> Result<Shape, AllocError>
+    ensures { IfOk result (λ shape. (n : ℕ) (sizes : List Size) (s : Size)
+        → HasShape (shape_view list.now) n sizes s → HasShape (shape_view shape) n sizes (value_size s)) }
+{
+    if let Shape::Items(_, items) = list {
+        return items.copy();
+    }
+    Ok(Shape::Item(Rc::new(alloc, list.copy()?)?))
 }
 
 /// The shape of two sizes joined, by the greater of their lengths, if it is known.
@@ -117,6 +136,12 @@ pub(crate) fn join_shapes(
                 return Ok(None);
             };
             Ok(Some(Shape::Items((*count).max(*most), Rc::new(alloc, each)?)))
+        }
+        (Shape::Item(list), Shape::Item(another)) => {
+            let Some(both) = join_shapes(alloc, list, another)? else {
+                return Ok(None);
+            };
+            Ok(Some(Shape::Item(Rc::new(alloc, both)?)))
         }
         _ => Ok(None),
     }

@@ -72,7 +72,8 @@ impl ValueSize {
         match self {
             ValueSize::Many(_, items) => items.copy(),
             ValueSize::Table(_, keys, _) => keys.copy(),
-            _ => Ok(ValueSize::Flat),
+            ValueSize::Flat => Ok(ValueSize::Flat),
+            ValueSize::Text(_) => Ok(ValueSize::Flat),
         }
     }
 
@@ -95,7 +96,8 @@ impl ValueSize {
         match self {
             ValueSize::Many(_, items) => items.copy(),
             ValueSize::Table(_, _, values) => values.copy(),
-            _ => Ok(ValueSize::Flat),
+            ValueSize::Flat => Ok(ValueSize::Flat),
+            ValueSize::Text(_) => Ok(ValueSize::Flat),
         }
     }
 

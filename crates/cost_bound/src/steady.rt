@@ -89,8 +89,8 @@ fn is_variable(after: u64, variables: Variables) -> bool
 
 /// Whether a range has an item for all sizes of the locals.
 pub(crate) fn has_items(range: &TypedExpr<'_>) -> bool {
-    match range {
-        TypedExpr::List { elements, .. } => !elements.is_empty(),
-        _ => false,
-    }
+    let TypedExpr::List { elements, .. } = range else {
+        return false;
+    };
+    !elements.is_empty()
 }

@@ -10,8 +10,9 @@ ghost use Rattle.cel_costs.specs.Sizes.{Size};
 ghost use Rattle.cost_bound.specs.steps.Memos.{Forms, HoldsForAll, MemoHolds, MemoHoldsEach, Says, known_view, memo_view};
 
 use crate::call_forms::call_form;
-use crate::form::{Form, leaf_form, list_form, local_form};
+use crate::form::{Form, leaf_form, local_form};
 use crate::known::{attribute_size, constant_size};
+use crate::list_forms::list_form;
 use crate::loops::has_loop;
 use crate::memo::{Memo, with_part};
 use attributes::Limits;
@@ -137,12 +138,16 @@ fn form_or(alloc: Global, found: Option<Form>, parts: Memo) -> Result<Memo, Allo
     }
 }
 
-/// What an outer memo says for all sizes of the locals, if it does.
-pub(crate) fn kept(memo: Option<&Memo>) -> Result<Option<Memo>, AllocError>
+/// The memo of an expression that needs no look at it, if there is one: what an outer memo says for all sizes of
+/// the locals. Without a budget nothing is known.
+pub(crate) fn kept(memo: Option<&Memo>, left: u64) -> Result<Option<Memo>, AllocError>
     ensures { IfOk result (λ found. IfSome found (λ same. (e : TypedTree) (l : LimitsValue)
         (sizes : List Size) → MemoHolds (known_view memo.entry) e l sizes
         → HoldsForAll (memo_view same) e l)) }
 {
+    if left == 0 {
+        return Ok(Some(Memo::Unknown));
+    }
     match memo {
         Some(known) => kept_form(known),
         None => Ok(None),
@@ -154,8 +159,8 @@ fn kept_form(memo: &Memo) -> Result<Option<Memo>, AllocError>
         (sizes : List Size) → MemoHolds (memo_view memo.now) e l sizes
         → HoldsForAll (memo_view same) e l)) }
 {
-    match memo {
-        Memo::Formed(form) => Ok(Some(Memo::Formed(form.clone()?))),
-        _ => Ok(None),
-    }
+    let Memo::Formed(form) = memo else {
+        return Ok(None);
+    };
+    Ok(Some(Memo::Formed(form.clone()?)))
 }

@@ -3,7 +3,7 @@ use Rattle.std.specs.Prelude.{ℕ, ◌≡◌, ◌<◌, ◌+◌, ◌*◌, ◌-◌
 use Rattle.attributes.specs.Limits.{LimitsValue}
 use Rattle.cel_types.specs.Elaborated.{TypedTree, TypedTrees}
 use Rattle.cel_types.specs.TypedMeaning.{local_at}
-use Rattle.cel_costs.specs.Costs.{cost_of, costs_of, join_all, known, size_of, sizes_of, total}
+use Rattle.cel_costs.specs.Costs.{cost_of, costs_of, join_all, known, size_of, sizes_of, total, value_size}
 use Rattle.cel_costs.specs.Sizes.{Size, Flat, Text, Many, Table, join, most_of}
 use Rattle.cost_bound.specs.steps.Numbers.{capped}
 use Rattle.cost_bound.specs.declared.numbers.Formula.{Formula, fold-Formula}
@@ -92,12 +92,14 @@ SameNumbers r p = (ss : List Size) → HasKinds r ss
 
 -- ---- sizes
 
--- a size by a length: flat; a text of that length; the sizes of these locals joined; or a list of so many items
+-- a size by a length: flat; a text of that length; the sizes of these locals joined; a list of so many items; or an
+-- item of a list or a value of a map
 pub data ShapeTree : Type 0 where
   flat : ShapeTree
   lengthy : ShapeTree
   joins : List ℕ → ShapeTree
   items : ℕ → ShapeTree → ShapeTree
+  item : ShapeTree → ShapeTree
 
 -- one level of a shape, whose inner shapes are already translated
 abbrev pub shape_level : Shape-F ShapeTree → ShapeTree
@@ -105,6 +107,7 @@ shape_level Shape-F.Flat = flat
 shape_level Shape-F.Text = lengthy
 shape_level (Shape-F.Joined ns) = joins ns.value.items
 shape_level (Shape-F.Items n s) = items n s.value
+shape_level (Shape-F.Item s) = item s.value
 
 -- the shape that a `Shape` means
 abbrev pub shape_view : Shape → ShapeTree
@@ -121,6 +124,7 @@ HasShape flat n ss s = (s ≡ Flat) × (n ≡ 0)
 HasShape lengthy n ss s = s ≡ Text n
 HasShape (joins ns) n ss s = s ≡ joined ns ss
 HasShape (items m sh) n ss s = (e : Size) × (s ≡ Many m e) × HasShape sh n ss e
+HasShape (item sh) n ss s = (t : Size) × (s ≡ value_size t) × HasShape sh n ss t
 
 -- where the kinds are as named, the formula and the shape give this cost and size
 abbrev pub Gets : FormulaTree → ShapeTree → List Size → Size → ℕ → Type 0

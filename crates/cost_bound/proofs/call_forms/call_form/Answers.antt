@@ -9,7 +9,7 @@ use Rattle.cel_costs.specs.Sizes.{Size}
 use Rattle.cost_bound.specs.declared.form.Form.{Form}
 use Rattle.cost_bound.specs.steps.Memos.{Forms, MemoHoldsEach, memo_view}
 use Rattle.cost_bound.proofs.FormRules.{found_then}
-use Rattle.cost_bound.proofs.Surveys.{one_form, three_forms, two_forms}
+use Rattle.cost_bound.proofs.Surveys.{one_form, two_forms}
 use Rattle.cost_bound.proofs.call_forms.call_form.Goals as goal
 
 pub returns-in-Operate : goal.returns-in-Operate
@@ -41,19 +41,8 @@ returns-in-Operate-overload c =
     rw both.2 (g t l both.0 both.1 both.3 both.4) in
     rw c.in-Operate-overload.is (found_then _ _ _ then c.pair_form.ensures)
 
+pub conditional_form-requires : goal.conditional_form-requires
+conditional_form-requires c = omega (arith, c.in-len3.len_at_least, c.in-len3.len_below)
+
 pub returns-in-Conditional-overload-2 : goal.returns-in-Conditional-overload-2
-returns-in-Conditional-overload-2 c =
-    let then : (f : Form) → ((t : ValueType) (l : LimitsValue) (x y z : TypedTree)
-    → Forms c.in-Some-form_at-3.tested.now x l → Forms c.in-Some-form_at-4.one.now y l
-    → Forms c.in-Some-form_at-5.other.now z l
-    → Forms f (typed_call t overloads.Conditional (typed x (typed y (typed z no_typed)))) l)
-    → (t : ValueType) (l : LimitsValue) (sizes : List Size)
-    → MemoHoldsEach (memo_view c.args.memo.now) 0 (exprs_view c.args.operands.now) l sizes
-    → Forms f (typed_call t overloads.Conditional (exprs_view c.args.operands.now)) l =
-    λ f g t l sizes h.
-    let all = three_forms (memo_view c.args.memo.now) l sizes c.in-Some-form_at-3.tested.now
-    c.in-Some-form_at-4.one.now c.in-Some-form_at-5.other.now c.args.operands.now
-    (omega (arith, c.in-len3.len_at_least, c.in-len3.len_below)) c.in-Some-form_at-3.ensures
-    c.in-Some-form_at-4.ensures c.in-Some-form_at-5.ensures h in
-    rw all.3 (g t l all.0 all.1 all.2 all.4 all.5 all.6) in
-    rw c.in-Conditional-overload-2.is (found_then _ _ _ then c.choice_form.ensures)
+returns-in-Conditional-overload-2 c = rw c.in-Conditional-overload-2.is c.conditional_form.ensures

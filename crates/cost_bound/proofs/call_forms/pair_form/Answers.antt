@@ -23,7 +23,7 @@ returns-then-is_scalar-2 c =
     λ f g t l x y hx hy. rw (g.1 ∙ view_flat) (compare_form (formula_view f.formula.value) _ _ _ _ t x y l hx hy
     c.in-Compare.field-0 (c.is_scalar.ensures c.if-is_scalar.true)
     (c.is_scalar-then-is_scalar.ensures c.if-is_scalar-2.true) g.0) in
-    rw c.in-Compare.is (found_then _ _ _ then c.pair-then-is_scalar-2.ensures)
+    rw c.in-Compare.is (found_then _ _ _ then c.flat_form-then-is_scalar-2.ensures)
 
 pub returns-then-is_scalar-4 : goal.returns-then-is_scalar-4
 returns-then-is_scalar-4 c =
@@ -35,4 +35,7 @@ returns-then-is_scalar-4 c =
     λ f g t l x y hx hy. rw (g.1 ∙ view_flat) (test_form (formula_view f.formula.value) _ _ _ _ t x y l hx hy
     c.in-TestText.field-0 (c.is_scalar-in-TestText.ensures c.if-is_scalar-3.true)
     (c.is_scalar-then-is_scalar-3.ensures c.if-is_scalar-4.true) g.0) in
-    rw c.in-TestText.is (found_then _ _ _ then c.pair-then-is_scalar-4.ensures)
+    rw c.in-TestText.is (found_then _ _ _ then c.flat_form-then-is_scalar-4.ensures)
+
+pub returns-in-ListIndex : goal.returns-in-ListIndex
+returns-in-ListIndex c = rw c.in-ListIndex.is c.index_form.ensures

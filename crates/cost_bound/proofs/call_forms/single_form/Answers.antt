@@ -24,7 +24,7 @@ returns-then-is_text c =
     λ f g t l h. rw (g.1 ∙ view_flat) (length_form (formula_view f.formula.value) _ _ _ t
     (expr_view c.args.operand.now) l h c.in_ok-none.ensures c.if-not-is_counted.ensures
     (c.is_text.ensures c.if-is_text.true) g.0) in
-    rw c.in-Size.is (found_then _ _ _ then c.pair-then-is_text.ensures)
+    rw c.in-Size.is (found_then _ _ _ then c.flat_form-then-is_text.ensures)
 
 pub returns-in-Convert : goal.returns-in-Convert
 returns-in-Convert c =

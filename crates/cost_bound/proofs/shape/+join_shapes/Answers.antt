@@ -1,7 +1,7 @@
 use Rattle.std.proofs.Common.{◌≡◌, List, [], ap, ◌∙◌}
 use Rattle.cel_costs.specs.Sizes.{Size, join}
 use Rattle.cost_bound.specs.steps.Formulas.{joined, shape_view}
-use Rattle.cost_bound.proofs.Shapes.{all_joined, flat_right, view_joined}
+use Rattle.cost_bound.proofs.Shapes.{all_joined, flat_right, items_within, view_item, view_joined}
 use Rattle.cost_bound.proofs.shape.+join_shapes.Goals as goal
 
 pub returns-in_ok-new-in-Joined-Joined : goal.returns-in_ok-new-in-Joined-Joined
@@ -23,3 +23,13 @@ returns-in_ok-new-in-Joined-Joined t c = λ m n sizes s u h k.
 pub returns-then-is_flat-2 : goal.returns-then-is_flat-2
 returns-then-is_flat-2 t c = λ m n sizes s u h k.
     rw c.in_ok-copy-2.ensures (flat_right m n sizes s u _ h (rw (c.is_flat-2.ensures c.if-is_flat-2.true) at k))
+
+pub returns-in_ok-new-in-Item-Item : goal.returns-in_ok-new-in-Item-Item
+returns-in_ok-new-in-Item-Item t c = λ m n sizes s u h k.
+    let one = ap shape_view c.in-Item-Item.is-0 ∙ view_item c.in-Item-Item.list in
+    let other = ap shape_view c.in-Item-Item.is-1 ∙ view_item c.in-Item-Item.another in
+    let made = view_item c.in_ok-new-in-Item-Item.field-0 in
+    let both = rw (c.in-Some-2.is, c.deref-in-Item-Item.ensures, c.deref-in-Item-Item-2.ensures)
+    at c.in_ok-both-in-Item-Item.ensures in
+    rw (made, c.in_ok-new-in-Item-Item.ensures.ok) (items_within m n sizes s u _ _ _
+    (λ e f. both m n sizes e f) (rw one at h) (rw other at k))

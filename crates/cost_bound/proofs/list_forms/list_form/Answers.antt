@@ -4,7 +4,7 @@ use Rattle.cost_bound.specs.steps.Formulas.{fixed, formula_view, items, shape_vi
 use Rattle.cost_bound.proofs.Formulas.{view_fixed}
 use Rattle.cost_bound.proofs.FormRules.{list_formed}
 use Rattle.cost_bound.proofs.Shapes.{view_items}
-use Rattle.cost_bound.proofs.form.list_form.Goals as goal
+use Rattle.cost_bound.proofs.list_forms.list_form.Goals as goal
 
 pub returns : goal.returns
 returns c = λ t l sizes h.

@@ -1,7 +1,7 @@
 use Rattle.std.proofs.Common.{◌≡◌, ◌+◌, ◌-◌, arith}
 use Rattle.cost_bound.specs.steps.Memos.{memo_view}
 use Rattle.cost_bound.proofs.Surveys.{item_there}
-use Rattle.cost_bound.proofs.form.items_form.Goals as goal
+use Rattle.cost_bound.proofs.list_forms.items_form.Goals as goal
 
 pub loop-at-preserved : goal.loop-at-preserved
 loop-at-preserved c =

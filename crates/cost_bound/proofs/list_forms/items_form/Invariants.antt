@@ -4,7 +4,7 @@ use Rattle.cel_types.specs.steps.ExprViews.{exprs_view}
 use Rattle.cel_costs.specs.Sizes.{Size}
 use Rattle.cost_bound.specs.steps.Formulas.{AreItems, formula_view, shape_view}
 use Rattle.cost_bound.specs.steps.Memos.{MemoHoldsEach, memo_view}
-use Rattle.cost_bound.proofs.form.items_form.Given as goal
+use Rattle.cost_bound.proofs.list_forms.items_form.Given as goal
 
 -- the form so far is that of the items from a place on
 abbrev pub invariant-loop-at : goal.invariant-loop-at
