@@ -27,7 +27,8 @@
  * caller's again once the call returns. What a function writes may not overlap anything else that it is given.
  *
  * POINTERS. A pointer to bytes, lines or resources is valid for its length, and may be null where that is 0. No other pointer may be
- * null. A bool is 0 or 1. Nothing else matters: any message, head, text or number gets an answer.
+ * null. A bool is 0 or 1. Nothing else matters: any message, head, text or number gets an answer. Where there is a limit of a length,
+ * a greater one has its status before anything of that length is read; each function below says which.
  *
  * THREADS. A handle belongs to one thread: the one that first put something into it. No other thread may call anything with it, not
  * even the free. Each thread has handles of its own; they are independent. The library has no global state and no locks.
@@ -226,14 +227,19 @@ int32_t vupresal_filter_admit(vupresal_filter *filter, const uint8_t *message, s
  *
  * Status: VUPRESAL_OK, with the decision; VUPRESAL_BAD_REQUEST if a head of HTTP/1 could not have these parts (as a value with a
  * line end, a name that is no token, two hosts, or none in HTTP/1.1), a text is not UTF-8, or a text of the facts has more than
- * 65,536 bytes, of which none is then read; VUPRESAL_OUTSIDE_LIMITS;
- * VUPRESAL_TRANSFER_CODING; VUPRESAL_MEMORY; VUPRESAL_EMPTY. The filter stays as it was. */
+ * 65,536 bytes, of which none is then read; VUPRESAL_OUTSIDE_LIMITS; VUPRESAL_TRANSFER_CODING; VUPRESAL_MEMORY; VUPRESAL_EMPTY.
+ * The filter stays as it was.
+ *
+ * No part is read, and the status is VUPRESAL_OUTSIDE_LIMITS, if the method, the target or a name has more bytes than its limit, if
+ * there are more lines than the limit of fields, or if a value has more than 65,536 bytes. White space at the ends of a value does not
+ * count for its own limit. */
 int32_t vupresal_filter_decide(vupresal_filter *filter, const vupresal_request *request, const vupresal_facts *facts,
                                vupresal_decision *decision);
 
-/* Decides on one request, by its head of HTTP/1, from the method to the empty line. What follows that is not read.
+/* Decides on one request, by its head of HTTP/1, from the method to the empty line. What follows that has no effect. At most 65,536
+ * bytes are read; a head has no more.
  *
- * Status: as above. VUPRESAL_BAD_REQUEST also if the head is not whole. */
+ * Status: as above. VUPRESAL_BAD_REQUEST also if the head is not whole, VUPRESAL_OUTSIDE_LIMITS if it is not whole in 65,536 bytes. */
 int32_t vupresal_filter_decide_head(vupresal_filter *filter, const uint8_t *head, size_t length, const vupresal_facts *facts,
                                     vupresal_decision *decision);
 
@@ -284,7 +290,7 @@ typedef struct vupresal_given {
 
 /* Puts the core of a new proxy into the handle, in place of what that held.
  * Status: VUPRESAL_OK; VUPRESAL_OUT_OF_RANGE for settings out of range; VUPRESAL_MEMORY. After any but VUPRESAL_OK the handle holds
- * what it held. */
+ * what it held. With more than 8 filters, or a name, a node or a cluster of more than 256 bytes, no text is read. */
 int32_t vupresal_proxy_new(vupresal_proxy *proxy, const vupresal_settings *settings);
 
 /* The update stream comes up, delivers bytes, or is lost.

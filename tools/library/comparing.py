@@ -101,10 +101,19 @@ def by_program(program: Path, file: Path, trial: Trial) -> List[str]:
     told = json.loads(subprocess.run(words, capture_output=True, check=False).stdout)
     if "refused" in told:
         return [f"refused {told['refused']} {told['place'] or ''}"]
+    return [f"admitted {told['policies']} {told['bound']}", *map(answer_of, answers(program, file, trial))]
+
+
+def answers(program: Path, file: Path, trial: Trial) -> Iterator[Dict[str, object]]:
+    """What `rbacd judge` answers. Heads that are text are judged as a batch, all others one by one."""
+    words = [program, "judge", "--policy", file, "--budget", str(trial.budget)]
+    if not all(is_text(asked.head) for asked in trial.asked):
+        for asked in trial.asked:
+            yield json.loads(subprocess.run([*words, "--json"], input=asked.head, capture_output=True, check=False).stdout)
+        return
     lines = "".join(json.dumps({"head": asked.head.decode(), "facts": asked.facts}) + "\n" for asked in trial.asked)
-    words = [program, "judge", "--batch", "--policy", file, "--budget", str(trial.budget)]
-    answers = subprocess.run(words, input=lines.encode(), capture_output=True, check=True).stdout.decode().splitlines()
-    return [f"admitted {told['policies']} {told['bound']}", *map(answer_of, map(json.loads, answers))]
+    told = subprocess.run([*words, "--batch"], input=lines.encode(), capture_output=True, check=True).stdout.decode().splitlines()
+    yield from map(json.loads, told)
 
 
 def is_text(head: bytes) -> bool:
@@ -118,8 +127,10 @@ def is_text(head: bytes) -> bool:
 
 def of_the_cases() -> Iterator[Trial]:
     """Each filter of examples/filters with all heads of heads.txt, and with the heads and facts of its own rows."""
-    heads = [Asked(cases.bytes_of(head), {}) for _, head, _, _ in cases.rows("heads.txt", 3) if is_text(cases.bytes_of(head))]
+    every = [Asked(cases.bytes_of(head), {}) for _, head, _, _ in cases.rows("heads.txt", 3)]
+    heads = [asked for asked in every if is_text(asked.head)]
     found = cases.filters()
+    yield Trial("heads that are no text", found["any_any"], BUDGET, [asked for asked in every if not is_text(asked.head)])
     own: Dict[str, List[Asked]] = {name: [] for name in found}
     for _, _, name, target, fields, facts, _ in cases.rows("verdicts.txt", 6):
         own[name].append(Asked(cases.head_of(target, fields), json.loads(facts)))

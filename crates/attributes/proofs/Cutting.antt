@@ -1,10 +1,9 @@
 -- Where a target is cut into its path, its query and its fragment.
-use Rattle.std.proofs.Common.{◌≡◌, ℕ, ◌+◌, ◌-◌, ◌<◌, ◌≤◌, ◌==◌, List, [], length, map, take, drop, refl, sym, ap, ◌∙◌, arith, inl, inr}
+use Rattle.std.proofs.Common.{◌≡◌, ℕ, ◌+◌, ◌-◌, ◌≤◌, ◌==◌, List, length, take, drop, sym, ap, ◌∙◌, arith, inl, inr}
 use Rattle.std.proofs.lemmas.Bool.{cases_lt}
 use Rattle.std.proofs.lemmas.List.{drop_all, length-drop, length-take, take_min, take_rest}
 use Rattle.std.specs.List.{after_first, before_first, position_or_len, slice_range}
-use Rattle.attributes.specs.Attributes.{query_of, url_path_of, without_fragment}
-use Rattle.attributes.specs.declared.request.CutPlaces.{CutPlaces}
+use Rattle.attributes.specs.Attributes.{without_fragment}
 use Rattle.attributes.specs.steps.Parts.{Begins}
 use Rattle.attributes.specs.steps.Request.{IsCut}
 use Rattle.attributes.proofs.Parts.{begins_trans, longer, slice_kept}

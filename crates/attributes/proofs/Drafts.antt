@@ -1,16 +1,16 @@
 -- A draft stays one when its text grows, and when a field is added.
-use Rattle.std.proofs.Common.{◌≡◌, ℕ, ◌≤◌, List, [], ◌∷◌, ◌++◌, length, map, codes, Result, Ok, Err, MatchResult, OnOk, refl, sym, ap, ap₂, ◌∙◌, arith, lit≤, append_assoc}
-use Rattle.std.proofs.lemmas.List.{map-append, take_all, take_rest}
+use Rattle.std.proofs.Common.{◌≡◌, ℕ, List, [], ◌∷◌, ◌++◌, length, codes, Result, Ok, Err, MatchResult, OnOk, refl, sym, ap, ap₂, ◌∙◌, lit≤, append_assoc}
+use Rattle.std.proofs.lemmas.List.{map-append, take_rest}
 use Rattle.std.proofs.lemmas.List.Elements.{All-push}
 use Rattle.std.specs.List.{slice_range}
 use Rattle.std.specs.Str.{IsUtf8}
-use Rattle.attributes.specs.Draft.{DraftValue, first_draft, with_entries, with_entry}
+use Rattle.attributes.specs.Draft.{DraftValue, with_entries, with_entry}
 use Rattle.attributes.specs.Headers.{Entry}
 use Rattle.attributes.specs.declared.headers.Field.{Field}
 use Rattle.attributes.specs.declared.part.Part.{Part}
 use Rattle.attributes.specs.steps.Drafts.{IsAdded, IsDraft, draft_in, own_entries, own_names}
 use Rattle.attributes.specs.steps.Parts.{AreFields, Begins, IsAt, IsField, IsPart, entries_in, entry_in, part_of}
-use Rattle.attributes.proofs.Parts.{are_fields_kept, begins_itself, begins_trans, entries_kept, entry_kept, is_field_kept, is_part_kept, part_kept}
+use Rattle.attributes.proofs.Parts.{are_fields_kept, begins_itself, begins_trans, entries_kept, is_part_kept, part_kept}
 
 module _ (t u : List ℕ) (fs : List Field) (m p : Part) (held : IsDraft t fs m p)
     (grown : Begins t u) where

@@ -1,7 +1,6 @@
 -- A draft's entries, with the pseudo-headers and joined, are the headers of its request.
-use Rattle.std.proofs.Common.{◌≡◌, ℕ, ◌+◌, ◌<◌, ◌≤◌, ◌^◌, All, Bool, List, [], ◌∷◌, ◌++◌, Option, Some, None, IsSome, codes, length, map, refl, sym, ap, ◌∙◌, arith}
+use Rattle.std.proofs.Common.{◌≡◌, ℕ, ◌+◌, ◌<◌, ◌^◌, All, Bool, List, ◌++◌, Option, Some, IsSome, codes, length, map, refl, ap, ◌∙◌, arith}
 use Rattle.std.specs.FinMap.{entries, find}
-use Rattle.std.specs.List.{slice_range}
 use Rattle.std.specs.Str.{IsUtf8}
 use Rattle.attributes.specs.Attributes.{query_of, url_path_of}
 use Rattle.attributes.specs.Conn.{AreFacts, Facts}

@@ -1,5 +1,5 @@
 -- One field more is joined to the last one, or follows it.
-use Rattle.std.proofs.Common.{◌≡◌, ℕ, ◌+◌, ◌<◌, true, false, List, [], ◌∷◌, ◌++◌, length, map, take, get_or, sym, ap, ap₂, ◌∙◌, arith, suc, zero, append_assoc}
+use Rattle.std.proofs.Common.{◌≡◌, ℕ, ◌+◌, ◌<◌, false, List, [], ◌∷◌, ◌++◌, length, take, get_or, sym, ap, ap₂, ◌∙◌, arith, suc, zero, append_assoc}
 use Rattle.std.proofs.lemmas.List.{get_or_default, map-append, take_more}
 use Rattle.std.specs.FinMap.{entries}
 use Rattle.std.specs.Str.{bytes_eq}

@@ -11,6 +11,7 @@ mod Spots
 mod Cutting
 mod OwnHeaders
 mod JoinSteps
+mod Distinct
 mod Drafts
 mod Finishing
 pub mod AddressText

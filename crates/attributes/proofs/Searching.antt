@@ -109,3 +109,22 @@ module _ {X : Type 0} (view : X → Entry) (name : List ℕ)
         (between []).1,
         λ w. (between w).0,
       )
+
+-- the place of a header that has the name is the place of the name
+pub is_place_at : {X : Type 0} (view : X → Entry) (name : List ℕ) (xs : List X) (i : ℕ) (x : X)
+    → IsTrue (is_sorted name_cmp (map view xs)) → i < length xs → x ≡ get_or xs i x
+    → (view x).0 ≡ name → IsPlace name (map view xs) (Ok i)
+is_place_at view name xs i x up below there same =
+    let es : List Entry = map view xs in
+    let d : Entry = view x in
+    let long : length es ≡ length xs = length-map xs view in
+    let under : i < length es = omega (arith, long, below) in
+    let at : get_or es i d ≡ d = get_or-map view xs i x ∙ ap view (sym there) in
+    let named : (get_or es i d).0 ≡ name = ap (λ (e : Entry). e.0) at ∙ same in
+    let found = λ (w : List ℕ). put_at name w es i d (t_from_true _ up) under named in
+    let with_name : List ℕ → Entry = λ n. (n, (get_or es i d).1) in (
+      (get_or es i d).1,
+      slice_get-get_or es i d under ∙ ap (λ n. Some (with_name n)) named,
+      (found []).1,
+      λ w. (found w).0,
+    )

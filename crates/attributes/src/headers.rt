@@ -1,5 +1,6 @@
 //! The headers of a request: its field lines sorted by name, the values of one name joined.
 ghost use Rattle.std.specs.Prelude.{◌≡◌, ℕ, List, ◌++◌, ◌∷◌, [], All, IfOk, OnOk, length};
+ghost use Rattle.std.specs.Bool.{OnTrue};
 ghost use Rattle.std.specs.FinMap.{entries};
 ghost use Rattle.std.specs.Str.{bytes_eq};
 ghost use Rattle.attributes.specs.Headers.{Entry, headers_of, name_cmp, values_of};
@@ -39,8 +40,58 @@ fn compare(text: &[u8], a: &Field, b: &Field) -> Ordering
     a.cmp(&b)
 }
 
-/// Joins neighbours of one name. Joined values are appended to the text.
+/// Joins neighbours of one name. Joined values are appended to the text. If each field has a name of
+/// its own, these fields are the result.
 pub(crate) fn join_sorted(
+    alloc: Global,
+    text: &mut Vec<u8>,
+    fields: Vec<Field>,
+) -> Result<Vec<Field>, AllocError>
+    requires parts { AreFields text.old.items fields.items }
+    requires sorted { AreSorted (entries_in text.old.items fields.items) }
+    ensures parts { IfOk result (λ joined. AreFields text.new.items joined.items) }
+    ensures joined { IfOk result (λ joined. entries_in text.new.items joined.items
+        ≡ entries (headers_of (entries_in text.old.items fields.items))) }
+{
+    if are_distinct(text.as_slice(), fields.as_slice()) {
+        return Ok(fields);
+    }
+    join_neighbours(alloc, text, fields.as_slice())
+}
+
+// Whether no two neighbours have one name.
+fn are_distinct(text: &[u8], fields: &[Field]) -> bool
+    requires parts { AreFields text.now fields.now }
+    requires sorted { AreSorted (entries_in text.now fields.now) }
+    ensures { OnTrue result (entries_in text.now fields.now
+        ≡ entries (headers_of (entries_in text.now fields.now))) }
+{
+    match fields.split_first() {
+        Some((first, others)) => are_distinct_from(text, *first, others),
+        None => true,
+    }
+}
+
+// Whether no two neighbours of the first field and the others have one name.
+fn are_distinct_from(text: &[u8], first: Field, others: &[Field]) -> bool
+    requires first { IsField text.now first }
+    requires others { AreFields text.now others.now }
+    requires sorted { AreSorted (entries_in text.now (first ∷ others.now)) }
+    ensures { OnTrue result (entries_in text.now (first ∷ others.now)
+        ≡ entries (headers_of (entries_in text.now (first ∷ others.now)))) }
+{
+    let mut last = first;
+    for next in others {
+        if has_name(text, last, *next) {
+            return false;
+        }
+        last = *next;
+    }
+    true
+}
+
+// Joins neighbours of one name, as a list of their own.
+fn join_neighbours(
     alloc: Global,
     text: &mut Vec<u8>,
     fields: &[Field],

@@ -84,14 +84,15 @@ impl Headers {
         are_short(self.fields.as_slice(), name, value)
     }
 
-    /// Where the last bytes of the value of this name are, so many of them.
-    pub(crate) fn end_of(&self, name: &str, count: usize) -> Spot
+    /// Where the last bytes of the value of this name are, so many of them. The header at the index
+    /// `likely` is tried first.
+    pub(crate) fn end_of(&self, name: &str, likely: usize, count: usize) -> Spot
         requires { IsSome (find name_cmp name.now self.now) }
         ensures { (front end : List ℕ) → find name_cmp name.now self.now ≡ Some (front ++ end)
             → count ≡ length end → IsUtf8 end → IsSpotOf self.now result end }
     {
         let fields = self.fields.as_slice();
-        match find_place(self.text.as_slice(), fields, name) {
+        match likely_place(self.text.as_slice(), fields, likely, name) {
             Ok(index) => end_at(fields[index].value, index, count),
             Err(_) => unreachable!(),
         }
@@ -164,6 +165,20 @@ fn find_place(text: &[u8], fields: &[Field], name: &str) -> Result<usize, usize>
         → IsPlace name.now (entries_in text.now fields.now) result }
 {
     fields.binary_search_by(|field| compare_name(text, field, name))
+}
+
+// The place of the name. The field at the index `likely` is tried first.
+fn likely_place(text: &[u8], fields: &[Field], likely: usize, name: &str) -> Result<usize, usize>
+    requires { AreKept text.now fields.now }
+    ensures bound { IsSearchInRange result (length fields.now) }
+    ensures place { IsPlace name.now (entries_in text.now fields.now) result }
+{
+    if let Some(field) = fields.get(likely)
+        && text_at(text, field.name) == name
+    {
+        return Ok(likely);
+    }
+    find_place(text, fields, name)
 }
 
 // The order of the field's name and this one.

@@ -174,8 +174,9 @@ impl Draft {
         let lines = fields.len();
         add_own(&mut text, &mut fields, method, target, conn.scheme.as_str())?;
         let headers = sorted_headers(alloc, text, fields)?;
-        let method = headers.end_of(":method", method.len());
-        let target = headers.end_of(":path", target.len());
+        // where they are if the host is before them
+        let method = headers.end_of(":method", 1, method.len());
+        let target = headers.end_of(":path", 2, target.len());
         let cut = cut_target(headers.text_of(target));
         Ok(Request {
             headers,
@@ -200,7 +201,7 @@ fn sorted_headers(alloc: Global, text: Vec<u8>, fields: Vec<Field>) -> Result<He
     let mut text = text;
     let mut fields = fields;
     sort_by_name(text.as_slice(), &mut fields)?;
-    let joined = join_sorted(alloc, &mut text, fields.as_slice())?;
+    let joined = join_sorted(alloc, &mut text, fields)?;
     Ok(Headers::new(text, joined))
 }
 

@@ -1,5 +1,5 @@
 -- The field lines of the head that bytes begin with, and those of the next request.
-use Rattle.std.proofs.Common.{◌≡◌, ◌∙◌, ℕ, ◌<◌, Bool, true, false, Option, Some, None, List, ◌++◌, drop, length, min, option_map, take, ap, sym, arith}
+use Rattle.std.proofs.Common.{◌≡◌, ◌∙◌, ℕ, ◌<◌, Bool, true, false, Option, Some, None, List, ◌++◌, drop, length, min, option_map, take, ap, arith}
 use Rattle.std.specs.Option.{is_some}
 use Rattle.attributes.specs.Conn.{Facts}
 use Rattle.attributes.specs.Headers.{Entry}
@@ -7,7 +7,7 @@ use Rattle.attributes.specs.Limits.{LimitsValue}
 use Rattle.http_front.specs.declared.head.Parsed.{Parsed}
 use Rattle.http_front.specs.declared.head.Parsed.TheVariants.{Hopeless, Unfinished, Whole}
 use Rattle.http_front.specs.Head.{HeadValue, StartsHead, head_room}
-use Rattle.http_front.specs.Heads.{Kept, closed, reading}
+use Rattle.http_front.specs.Heads.{reading}
 use Rattle.http_front.specs.Lines.{AreHeadLines, AreLinesOf, AreNextLines}
 use Rattle.http_front.specs.steps.Asks.{IsNoHead}
 use Rattle.http_front.specs.steps.Parsed.{IsParsed}

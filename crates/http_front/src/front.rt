@@ -1,7 +1,7 @@
 //! The front of a connection.
-ghost use Rattle.std.specs.Prelude.{◌≡◌, ◌≤◌, ◌++◌, ◌↔◌, [], IfOk, IsTrue, Ok, OnErr, OnOk, drop, option_map, true, false, vec_len};
+ghost use Rattle.std.specs.Prelude.{◌≡◌, ◌≤◌, ◌++◌, ◌↔◌, [], IfOk, IfSome, IsTrue, Ok, OnErr, OnOk, drop, option_map, true, false, vec_len};
 ghost use Rattle.std.specs.Bool.{OnTrue};
-ghost use Rattle.attributes.specs.Conn.{conn_view};
+ghost use Rattle.attributes.specs.Conn.{Facts, conn_view};
 ghost use Rattle.attributes.specs.Headers.{lines_view};
 ghost use Rattle.http_front.specs.Answer.{answer_of, reply_view};
 ghost use Rattle.http_front.specs.Front.{HasNoAsk, TakesNext, fed_front, keeping, new_front};
@@ -18,6 +18,7 @@ use crate::turn::{Turn, turn_of};
 use attributes::{Conn, Limits};
 use std::alloc::{AllocError, Global};
 use std::marker::Model;
+use std::rc::Rc;
 
 /// Gives the asks in the bytes of a connection, in whatever pieces these arrive (RFC 9112). It does not keep bytes
 /// whose ask was given. It does not keep bytes of a body that arrive after the ask of its head was taken.
@@ -25,6 +26,8 @@ use std::marker::Model;
 pub struct Front {
     limits: Limits,
     conn: Conn,
+    // a copy of the facts, made for the first head; all heads share it
+    shared: Option<Rc<Conn>>,
     bytes: Vec<u8>,
     // where the bytes begin whose ask was not given yet
     at: usize,
@@ -40,7 +43,7 @@ pub struct Front {
 }
 
 impl Model for Front {
-    ghost use Rattle.std.specs.Prelude.{◌≤◌, drop, vec_len};
+    ghost use Rattle.std.specs.Prelude.{◌≡◌, ◌≤◌, IfSome, drop, vec_len};
     ghost use Rattle.attributes.specs.Conn.{conn_view};
     ghost use Rattle.http_front.specs.Front.{FrontValue};
     ghost use Rattle.http_front.specs.steps.Turns.{front_of, kept_of};
@@ -50,7 +53,8 @@ impl Model for Front {
 
     ghost view = { λ f. front_of f.limits (conn_view f.conn) (kept_of f.is_closed f.skip f.at f.bytes.items) };
 
-    ghost invariant = { λ f. (f.at ≤ vec_len f.bytes) × AreSeen f.scan f.seen (drop f.at f.bytes.items) };
+    ghost invariant = { λ f. (f.at ≤ vec_len f.bytes) × AreSeen f.scan f.seen (drop f.at f.bytes.items)
+        × IfSome f.shared (λ shared. conn_view shared.value ≡ conn_view f.conn) };
 }
 
 impl Front {
@@ -61,6 +65,7 @@ impl Front {
         Front {
             limits,
             conn,
+            shared: None,
             bytes: Vec::new(alloc),
             at: 0,
             skip: 0,
@@ -78,6 +83,7 @@ impl Front {
         Ok(Front {
             limits: self.limits,
             conn: self.conn.copy()?,
+            shared: copy_shared(&self.shared)?,
             bytes: Vec::from_slice(*self.bytes.allocator(), &self.bytes[self.at..])?,
             at: 0,
             skip: self.skip,
@@ -141,7 +147,8 @@ impl Front {
         if self.goes_on() {
             return Ok(None);
         }
-        let turn = self.turn()?;
+        let conn = self.shared_conn()?;
+        let turn = self.turn(&conn)?;
         Ok(self.take(turn))
     }
 
@@ -182,7 +189,7 @@ impl Front {
         ensures same { self.new ≡ self.old }
         ensures rest { OnTrue result (HasNoAsk self.old) }
     {
-        if !self.is_tried {
+        if !self.is_tried && self.at < self.bytes.len() {
             return false;
         }
         let rest = &self.bytes[self.at..];
@@ -194,8 +201,22 @@ impl Front {
         self.scan.is_open()
     }
 
-    // The first ask, and how the bytes continue after it.
-    fn turn(&self) -> Result<Turn, AllocError>
+    // The facts of the connection, as all heads share them.
+    fn shared_conn(&mut self) -> Result<Rc<Conn>, AllocError>
+        ensures same { self.new ≡ self.old }
+        ensures conn { IfOk result (λ conn. conn_view conn.value ≡ self.old.facts) }
+    {
+        if let Some(shared) = &self.shared {
+            return shared.clone();
+        }
+        let shared = Rc::new(*self.bytes.allocator(), self.conn.copy()?)?;
+        self.shared = Some(shared.clone()?);
+        Ok(shared)
+    }
+
+    // The first ask, and how the bytes continue after it, on the connection `conn`, which is this one.
+    fn turn(&self, conn: &Rc<Conn>) -> Result<Turn, AllocError>
+        requires { conn_view conn.now.value ≡ self.now.facts }
         ensures { IfOk result (IsNextTurn self.now.limits self.now.facts self.now.kept) }
     {
         if self.is_closed || self.skip > 0 {
@@ -204,7 +225,7 @@ impl Front {
         turn_of(
             *self.bytes.allocator(),
             &self.limits,
-            &self.conn,
+            conn,
             &self.bytes[self.at..],
         )
     }
@@ -252,6 +273,17 @@ impl Front {
         self.is_tried = false;
         self.scan = Scan::Blank;
         self.seen = 0;
+    }
+}
+
+// The same facts, shared once more.
+fn copy_shared(shared: &Option<Rc<Conn>>) -> Result<Option<Rc<Conn>>, AllocError>
+    ensures { (facts : Facts) → IfSome shared.now (λ conn. conn_view conn.value ≡ facts)
+        → IfOk result (λ copy. IfSome copy (λ conn. conn_view conn.value ≡ facts)) }
+{
+    match shared {
+        Some(conn) => Ok(Some(conn.clone()?)),
+        None => Ok(None),
     }
 }
 

@@ -124,9 +124,9 @@ impl<'a> Head<'a> {
 
     /// The request of the head, on this connection.
     #[inline(always)]
-    pub(crate) fn to_request(&self, alloc: Global, conn: Conn) -> Result<Request, AllocError>
+    pub(crate) fn to_request(&self, alloc: Global, conn: Rc<Conn>) -> Result<Request, AllocError>
         requires { AreTexts self.now }
-        ensures { IfOk result (λ r. r ≡ request_of_head self.now (conn_view conn)) }
+        ensures { IfOk result (λ r. r ≡ request_of_head self.now (conn_view conn.value)) }
     {
         let room = Room {
             lines: self.fields.len(),
@@ -134,7 +134,7 @@ impl<'a> Head<'a> {
         };
         let mut draft = Draft::new(alloc, text_of(self.method), text_of(self.target), room)?;
         add_fields(&mut draft, self.bytes, self.fields)?;
-        draft.finish(alloc, self.is_http11, Rc::new(alloc, conn)?)
+        draft.finish(alloc, self.is_http11, conn)
     }
 
     /// The field lines of the head, each a name in lower case and a value.

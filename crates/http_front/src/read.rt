@@ -1,21 +1,27 @@
 //! Reads what one head asks.
-ghost use Rattle.std.specs.Prelude.{◌≡◌, ◌<◌, ◌==◌, IfNone, IfOk, IsOk, count_by, length};
-ghost use Rattle.attributes.specs.Conn.{conn_view};
+ghost use Rattle.std.specs.Prelude.{◌≡◌, ◌<◌, ◌≤◌, ◌==◌, IfNone, IfOk, IfSome, IsOk, count_by, length, take};
+ghost use Rattle.attributes.specs.Conn.{Facts, conn_view};
 ghost use Rattle.httparse.specs.Ascii.{line_feed};
 ghost use Rattle.http_front.specs.declared.fault.HeadFault.{HeadFault};
-ghost use Rattle.http_front.specs.Asks.{HasFault, HeadAsks, IfFault, IfJudge, IsUnfinished};
+ghost use Rattle.http_front.specs.Head.{head_room};
+ghost use Rattle.http_front.specs.Asks.{AskFault, HasFault, HeadAsks, IfFault, IfJudge, IsUnfinished};
 ghost use Rattle.http_front.specs.Rules.{RuleFault};
+ghost use Rattle.http_front.specs.steps.Parsed.{AreTexts};
 ghost use Rattle.http_front.specs.steps.Asks.{IsAskIn, IsAskOf, IsAskWithin, IsNoHead};
 
 use crate::fault::HeadFault;
 use crate::head::{Head, Parsed, parse};
 use attributes::{Conn, Limits, Request};
-use httparse::spans::EMPTY_HEADER_SPAN;
+use httparse::spans::{EMPTY_HEADER_SPAN, HeaderSpan};
 use memchr::memchr_iter;
 use std::alloc::{AllocError, Global};
+use std::rc::Rc;
 
 /// The greatest length of a head in bytes.
 pub(crate) const HEAD_ROOM: usize = 65_536;
+
+/// The spans of so many lines take no memory of the heap.
+pub(crate) const FEW_LINES: usize = 16;
 
 /// The request that a head asks for, or its fault.
 #[derive(Debug, Drop)]
@@ -41,9 +47,32 @@ pub fn read_head(
         IfFault found (HasFault bytes.now limits.now (conn_view conn))) }
     ensures unfinished { IfOk result (λ found. IfNone found (IsUnfinished bytes.now)) }
 {
+    let feeds = line_feeds(&bytes[..bytes.len().min(HEAD_ROOM)]);
+    if feeds <= FEW_LINES {
+        let mut fields = [EMPTY_HEADER_SPAN; FEW_LINES];
+        return ask_with(alloc, bytes, &mut fields[..feeds], limits, conn);
+    }
+    let mut fields = vec![in alloc; EMPTY_HEADER_SPAN; feeds]?;
+    ask_with(alloc, bytes, &mut fields, limits, conn)
+}
+
+/// The same with `fields`, room for as many fields as the bytes have line feeds.
+fn ask_with(
+    alloc: Global,
+    bytes: &[u8],
+    fields: &mut [HeaderSpan],
+    limits: &Limits,
+    conn: Conn,
+) -> Result<Option<HeadAsk>, AllocError>
+    requires { length fields.old ≡ count_by (λ b. b == line_feed) (take head_room bytes.now) }
+    ensures judged { IfOk result (λ found.
+        IfJudge found (HeadAsks bytes.now limits.now (conn_view conn))) }
+    ensures fault { IfOk result (λ found.
+        IfFault found (HasFault bytes.now limits.now (conn_view conn))) }
+    ensures unfinished { IfOk result (λ found. IfNone found (IsUnfinished bytes.now)) }
+{
     let room = &bytes[..bytes.len().min(HEAD_ROOM)];
-    let mut fields = vec![in alloc; EMPTY_HEADER_SPAN; line_feeds(room)]?;
-    ask_in(alloc, parse(room, &mut fields), bytes.len(), limits, conn)
+    ask_in(alloc, parse(room, fields), bytes.len(), limits, conn)
 }
 
 /// The ask of what the parser gave for as many bytes as a head may have; `length` is the number of all bytes. Without
@@ -89,12 +118,39 @@ pub(crate) fn ask_of(
     ensures broken { (fault : HeadFault) → RuleFault head.now fault → IsOk result }
     ensures many { limits.now.fields < length head.now.fields → IsOk result }
 {
-    if let Some(fault) = head.fault() {
+    if let Some(fault) = refusal_of(head, limits) {
         return Ok(HeadAsk::Fault(fault));
     }
-    if head.exceeds(limits) {
-        return Ok(HeadAsk::Fault(HeadFault::OutsideLimits));
+    ask_on(alloc, head, limits, Rc::new(alloc, conn)?)
+}
+
+/// The fault of a head that breaks a rule or has too many fields.
+pub(crate) fn refusal_of(head: &Head<'_>, limits: &Limits) -> Option<HeadFault>
+    ensures sound { IfNone result ((fault : HeadFault) → ¬ (RuleFault head.now fault)) }
+    ensures texts { IfNone result (AreTexts head.now) }
+    ensures few { IfNone result (length head.now.fields ≤ limits.now.fields) }
+    ensures fault { (facts : Facts) → IfSome result (AskFault limits.now facts head.now) }
+{
+    if let Some(fault) = head.fault() {
+        return Some(fault);
     }
+    if head.exceeds(limits) {
+        return Some(HeadFault::OutsideLimits);
+    }
+    None
+}
+
+/// The ask of a head that breaks no rule, on the connection `conn`.
+pub(crate) fn ask_on(
+    alloc: Global,
+    head: &Head<'_>,
+    limits: &Limits,
+    conn: Rc<Conn>,
+) -> Result<HeadAsk, AllocError>
+    requires sound { (fault : HeadFault) → ¬ (RuleFault head.now fault) }
+    requires texts { AreTexts head.now }
+    ensures { IfOk result (IsAskOf limits.now (conn_view conn.value) head.now) }
+{
     let request = head.to_request(alloc, conn)?;
     Ok(ask_within(limits, request))
 }

@@ -10,11 +10,12 @@ ghost use Rattle.http_front.specs.steps.Turns.{IsParsedOf, IsTurn, IsTurnIn, IsT
 use crate::ask::Ask;
 use crate::fault::HeadFault;
 use crate::head::{Head, Parsed, parse};
-use crate::read::{HEAD_ROOM, HeadAsk, ask_of, line_feeds};
+use crate::read::{FEW_LINES, HEAD_ROOM, HeadAsk, ask_on, line_feeds, refusal_of};
 use attributes::{Conn, Limits, Request};
 use httparse::spans::EMPTY_HEADER_SPAN;
 use memchr::memchr_iter;
 use std::alloc::{AllocError, Global};
+use std::rc::Rc;
 
 /// The first ask of some bytes, and how they continue after it.
 #[derive(Debug, Drop)]
@@ -35,10 +36,10 @@ pub(crate) const FEW: usize = 1_024;
 pub(crate) fn turn_of(
     alloc: Global,
     limits: &Limits,
-    conn: &Conn,
+    conn: &Rc<Conn>,
     bytes: &[u8],
 ) -> Result<Turn, AllocError>
-    ensures { IfOk result (IsTurn limits.now (conn_view conn.now) bytes.now) }
+    ensures { IfOk result (IsTurn limits.now (conn_view conn.now.value) bytes.now) }
 {
     if bytes.len() > FEW {
         match turn_of_first(alloc, limits, conn, bytes, likely_end(bytes))? {
@@ -53,10 +54,10 @@ pub(crate) fn turn_of(
 fn turn_of_room(
     alloc: Global,
     limits: &Limits,
-    conn: &Conn,
+    conn: &Rc<Conn>,
     bytes: &[u8],
 ) -> Result<Turn, AllocError>
-    ensures { IfOk result (IsTurn limits.now (conn_view conn.now) bytes.now) }
+    ensures { IfOk result (IsTurn limits.now (conn_view conn.now.value) bytes.now) }
 {
     let turn = turn_of_first(alloc, limits, conn, bytes, bytes.len().min(HEAD_ROOM))?;
     Ok(turn_in_room(turn, bytes.len()))
@@ -83,15 +84,26 @@ fn turn_in_room(turn: Turn, count: usize) -> Turn
 fn turn_of_first(
     alloc: Global,
     limits: &Limits,
-    conn: &Conn,
+    conn: &Rc<Conn>,
     bytes: &[u8],
     count: usize,
 ) -> Result<Turn, AllocError>
     requires { (count ≤ length bytes.now) × (count ≤ head_room) }
-    ensures { IfOk result (IsTurnOfFirst limits.now (conn_view conn.now) count bytes.now) }
+    ensures { IfOk result (IsTurnOfFirst limits.now (conn_view conn.now.value) count bytes.now) }
 {
     let first = &bytes[..count];
-    let mut fields = vec![in alloc; EMPTY_HEADER_SPAN; line_feeds(first)]?;
+    let feeds = line_feeds(first);
+    if feeds <= FEW_LINES {
+        let mut fields = [EMPTY_HEADER_SPAN; FEW_LINES];
+        return turn_of_parsed(
+            alloc,
+            limits,
+            conn,
+            parse(first, &mut fields[..feeds]),
+            count,
+        );
+    }
+    let mut fields = vec![in alloc; EMPTY_HEADER_SPAN; feeds]?;
     turn_of_parsed(alloc, limits, conn, parse(first, &mut fields), count)
 }
 
@@ -99,13 +111,13 @@ fn turn_of_first(
 fn turn_of_parsed(
     alloc: Global,
     limits: &Limits,
-    conn: &Conn,
+    conn: &Rc<Conn>,
     parsed: Parsed<'_>,
     count: usize,
 ) -> Result<Turn, AllocError>
     requires { IsParsedOf count parsed }
     ensures found { IfOk result (λ turn. (bytes : List ℕ) → count ≤ length bytes
-        → IsParsed (take count bytes) parsed.entry → IsTurnOfFirst limits.now (conn_view conn.now) count bytes turn) }
+        → IsParsed (take count bytes) parsed.entry → IsTurnOfFirst limits.now (conn_view conn.now.value) count bytes turn) }
     ensures sure { IsNoHead parsed.entry → IsOk result }
 {
     match parsed {
@@ -119,14 +131,17 @@ fn turn_of_parsed(
 fn turn_of_head(
     alloc: Global,
     limits: &Limits,
-    conn: &Conn,
+    conn: &Rc<Conn>,
     head: &Head<'_>,
     size: usize,
 ) -> Result<Turn, AllocError>
     requires { size ≤ 65536 }
-    ensures { IfOk result (IsTurnOf limits.now (conn_view conn.now) head.now size) }
+    ensures { IfOk result (IsTurnOf limits.now (conn_view conn.now.value) head.now size) }
 {
-    let ask = ask_of(alloc, head, limits, conn.copy()?)?;
+    if let Some(fault) = refusal_of(head, limits) {
+        return Ok(Turn::Close(Ask::Fault(fault)));
+    }
+    let ask = ask_on(alloc, head, limits, conn.clone()?)?;
     Ok(turn_of_ask(ask, head, size))
 }
 

@@ -57,3 +57,10 @@ pub decided : (answer : Result Verdict Fault) (Asks : Asking) (a : Admitted) (st
     → IfOk answer (IsAnswer Asks a) → status ≡ done → IsDecision Asks a d
 decided (Ok v) Asks a status d told failed found is = rw told.1 (decision_is Asks a v found)
 decided (Err e) Asks a status d told failed found is = absurd (failed.1 is)
+
+-- what C gets of this fault
+pub told : (answer : Result Verdict Fault) (e : Fault) (status : ℤ) (d : Decision)
+    → IfErr answer (λ other. (status ≡ status_of other) × (status ≢ done) × (d ≡ refused))
+    → answer ≡ Err e → status ≡ status_of e
+told (Ok v) e status d failed is = absurd cc
+told (Err other) e status d failed is = let same : other ≡ e = cc in rw (← same) failed.0

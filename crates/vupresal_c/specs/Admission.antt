@@ -10,6 +10,8 @@ use Rattle.rbac_policy.specs.Admission.{Admits, Fault as MessageFault}
 use Rattle.rbac_policy.specs.Admitted.{filter_view, limits_view}
 use Rattle.rbac_policy.specs.Filter.{Filter}
 use Rattle.rbac_policy.specs.declared.filter.Admitted.{Admitted}
+use Rattle.vupresal_c.specs.declared.admission.NotAdmitted.{NotAdmitted}
+use Rattle.vupresal_c.specs.declared.admission.NotAdmitted.TheVariants as why
 use Rattle.vupresal_c.specs.declared.fault.Fault.{Fault}
 use Rattle.vupresal_c.specs.declared.fault.Fault.TheVariants.{Empty, OutOfRange, Refused, OutOfSteps, BadFacts, Unfinished, Head}
 
@@ -32,3 +34,8 @@ AdmitFails message bounds budget OutOfSteps = ⊥
 AdmitFails message bounds budget BadFacts = ⊥
 AdmitFails message bounds budget Unfinished = ⊥
 AdmitFails message bounds budget (Head fault) = ⊥
+
+-- the fault of a message, without its place
+abbrev pub fault_in : NotAdmitted → Fault
+fault_in why.OutOfRange = OutOfRange
+fault_in (why.Refused placed) = Refused placed.refusal

@@ -1,13 +1,15 @@
 -- Decisions for C (this project's own): the verdict on the request that is asked for, and why there is none.
-use Rattle.std.specs.Prelude.{◌≡◌, ℕ, Bool, true, false, List, Option, Some, None, if◌then◌else◌, map}
+use Rattle.std.specs.Prelude.{◌≡◌, ◌⊎◌, ℕ, Bool, true, false, IsTrue, List, Option, Some, None, IsSomeAnd, if◌then◌else◌}
 use Rattle.attributes.specs.Conn.{Facts}
 use Rattle.attributes.specs.Limits.{LimitsValue}
 use Rattle.attributes.specs.Request.{RequestValue}
 use Rattle.c_inputs.specs.Facts.{AreTexts}
+use Rattle.c_inputs.specs.Requests.{are_too_long}
 use Rattle.cel_tree.specs.Checked.{CelChecked}
 use Rattle.http_front.specs.Asks.{HasFault, HeadAsks, IsUnfinished}
-use Rattle.http_front.specs.Parts.{PartsAsk, PartsFault, PartsValue, field_view}
+use Rattle.http_front.specs.Parts.{PartsAsk, PartsFault, PartsValue}
 use Rattle.http_front.specs.declared.fault.HeadFault.{HeadFault}
+use Rattle.http_front.specs.declared.fault.HeadFault.TheVariants.{OutsideLimits}
 use Rattle.proto_wire.specs.declared.refusal.Refusal.{Refusal}
 use Rattle.rbac_policy.specs.Admission.{IsAdmittedAs}
 use Rattle.rbac_policy.specs.Admitted.{filter_view, limits_view}
@@ -17,7 +19,6 @@ use Rattle.rbac_policy.specs.Verdict.{IsVerdict}
 use Rattle.rbac_policy.specs.declared.filter.Admitted.{Admitted}
 use Rattle.rbac_policy.specs.declared.filter.Verdict.{Verdict}
 use Rattle.vupresal_c.specs.declared.decision.Decision.{Decision}
-use Rattle.vupresal_c.specs.declared.request.RequestInput.{RequestInput}
 use Rattle.vupresal_c.specs.declared.fault.Fault.{Fault}
 use Rattle.vupresal_c.specs.declared.fault.Fault.TheVariants.{Empty, OutOfRange, Refused, OutOfSteps, BadFacts, Unfinished, Head}
 
@@ -41,15 +42,6 @@ abbrev pub decision_of : Verdict → Decision
 decision_of v = decision_with v.allowed v.matched
 
 -- ---- the request that is asked for
-
--- the parts of a request as they are given
-abbrev pub parts_given : RequestInput → PartsValue
-parts_given r = record {
-  method = r.method.now;
-  target = r.target.now;
-  http11 = r.is_http11;
-  fields = map field_view r.lines.now;
-}
 
 -- which requests are asked for, within these limits
 abbrev pub Asking : Type 1
@@ -97,9 +89,22 @@ FailsFor Has IsOpen facts a (Head fault) = Has (limits_view a) fault
 abbrev pub HeadFailsFor : List ℕ → Facts → Admitted → Fault → Type 0
 HeadFailsFor head facts = FailsFor (λ limits fault. HasFault head limits facts fault) (IsUnfinished head) facts
 
+-- the parts have this fault: they are outside the limits by their lengths alone, or it is one of the head that they spell
+abbrev pub GivenFault : PartsValue → Facts → LimitsValue → HeadFault → Type 0
+GivenFault parts facts limits fault =
+    (IsTrue (are_too_long limits parts) × (fault ≡ OutsideLimits)) ⊎ PartsFault parts limits facts fault
+
+-- the fault of parts that are outside the limits by their lengths alone
+abbrev pub too_long : Fault
+too_long = Head OutsideLimits
+
 -- the filter has no decision on a request by its parts, with this fault
 abbrev pub PartsFailFor : PartsValue → Facts → Admitted → Fault → Type 0
-PartsFailFor parts facts = FailsFor (λ limits fault. PartsFault parts limits facts fault) ⊥ facts
+PartsFailFor parts facts = FailsFor (GivenFault parts facts) ⊥ facts
+
+-- the handle has a filter, and the parts are outside its limits by their lengths alone
+abbrev pub AreTooLongFor : PartsValue → Option Admitted → Type 0
+AreTooLongFor parts held = IsSomeAnd held (λ a. IsTrue (are_too_long (limits_view a) parts))
 
 -- there is no decision: the handle is empty, or its filter has none
 abbrev pub Fails : Option Admitted → (Admitted → Fault → Type 0) → Fault → Type 0

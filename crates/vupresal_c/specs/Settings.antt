@@ -1,6 +1,6 @@
 -- The settings of a proxy for C (this project's own): the configuration that they are, and why they are none.
-use Rattle.std.specs.Prelude.{◌≡◌, ◌⊎◌, List, Some, None, IsSomeAnd, map}
-use Rattle.std.specs.List.{AllByRecursion}
+use Rattle.std.specs.Prelude.{◌≡◌, ◌⊎◌, ◌||◌, Bool, IsTrue, nat_lt, List, Some, None, IsSomeAnd, length, map}
+use Rattle.std.specs.List.{AllByRecursion, list_any}
 use Rattle.std.specs.Str.{IsUtf8}
 use Rattle.ads.specs.Config.{ConfigValue, FilterValue, IsAtFault}
 use Rattle.ads.specs.declared.config.ConfigFault.{ConfigFault}
@@ -50,12 +50,26 @@ AreTexts resources = AllByRecursion (λ r. IsUtf8 r.name.now) resources
 abbrev pub TextFails : Type 0 → Fault → Type 0
 TextFails IsText e = (e ≡ Refused Refusal.Memory) ⊎ ((e ≡ OutOfRange) × (IsText → ⊥))
 
+-- the name of a resource has more than 256 bytes
+abbrev pub is_long_name : Resource → Bool
+is_long_name r = nat_lt 256 (length r.name.now)
+
+-- some resource's name is too long
+abbrev pub has_long_name : List Resource → Bool
+has_long_name resources = list_any is_long_name resources
+
+-- whatever the bytes of the names are, there are more than 8 filters, or some name has more than 256 bytes
+abbrev pub are_too_long : Settings → Bool
+are_too_long s = nat_lt 256 (length s.node.now) || nat_lt 256 (length s.cluster.now)
+    || nat_lt 8 (length s.filters.now) || has_long_name s.filters.now
+
 -- what is wrong with settings out of range
 pub data AreOutOfRange (s : Settings) : Type 0 where
   bounds : limits_given s.bounds ≡ None → AreOutOfRange s
   node : (IsUtf8 s.node.now → ⊥) → AreOutOfRange s
   cluster : (IsUtf8 s.cluster.now → ⊥) → AreOutOfRange s
   names : (AreTexts s.filters.now → ⊥) → AreOutOfRange s
+  lengths : IsTrue (are_too_long s) → AreOutOfRange s
   config : (limits : LimitsValue) (e : ConfigFault) → limits_given s.bounds ≡ Some limits
       → IsAtFault (config_given s limits) e → AreOutOfRange s
 

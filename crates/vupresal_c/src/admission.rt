@@ -1,7 +1,7 @@
 //! Admission of filters.
 
 ghost use Rattle.std.specs.Prelude.{◌≡◌, ◌≢◌, IfOk, IfErr, IsSomeAnd};
-ghost use Rattle.vupresal_c.specs.Admission.{AdmitFails, IsAdmission};
+ghost use Rattle.vupresal_c.specs.Admission.{AdmitFails, IsAdmission, fault_in};
 ghost use Rattle.vupresal_c.specs.Handles.{filter_in};
 ghost use Rattle.vupresal_c.specs.Statuses.{done, status_of};
 ghost use Rattle.vupresal_c.specs.declared.fault.Fault.{Fault as FaultValue};
@@ -10,8 +10,9 @@ use crate::copying::copy_text;
 use crate::fault::{Fault, OK};
 use crate::filter::Filter;
 use c_inputs::{Bounds, limits_of};
-use rbac_policy::{Admitted, admit, place_of};
-use std::alloc::Global;
+use proto_wire::Fault as Placed;
+use rbac_policy::{Admitted, admit_at, place_of_fault};
+use std::alloc::{AllocFailed, Global};
 
 /// The greatest budget, in steps.
 const MOST_BUDGET: u64 = 100_000_000;
@@ -43,12 +44,62 @@ pub extern "C" fn vupresal_filter_admit(
             OK
         }
         Err(fault) => {
-            match place_in(alloc, message, fault, bounds, budget) {
+            match fault.place(alloc, message) {
                 Some(named) => copy_text(&named, place),
                 None => copy_text("", place),
             }
-            fault.status()
+            fault.fault().status()
         }
+    }
+}
+
+/// Why a message is not admitted.
+#[derive(Clone, Copy, Debug)]
+enum NotAdmitted {
+    /// The limits or the budget are out of range.
+    OutOfRange,
+    /// A part of the message has this fault, or memory ran out.
+    Refused(Placed),
+}
+
+impl NotAdmitted {
+    /// The fault.
+    fn fault(self) -> Fault
+        ensures { result ≡ fault_in self }
+    {
+        match self {
+            NotAdmitted::OutOfRange => Fault::OutOfRange,
+            NotAdmitted::Refused(placed) => Fault::Refused(placed.refusal),
+        }
+    }
+
+    /// The words for the part of the message that has the fault, if it can be named.
+    fn place(self, alloc: Global, message: &[u8]) -> Option<String> {
+        match self {
+            NotAdmitted::OutOfRange => None,
+            NotAdmitted::Refused(placed) => place_of_fault(alloc, message, &placed),
+        }
+    }
+}
+
+impl From<Placed> for NotAdmitted {
+    ghost use Rattle.vupresal_c.specs.declared.admission.NotAdmitted.TheVariants.{Refused};
+
+    ghost from_gives = { λ placed e. e ≡ Refused placed };
+
+    fn from(placed: Placed) -> NotAdmitted {
+        NotAdmitted::Refused(placed)
+    }
+}
+
+impl<T: Drop> From<AllocFailed<T>> for NotAdmitted {
+    ghost use Rattle.vupresal_c.specs.Admission.{fault_in};
+    ghost use Rattle.vupresal_c.specs.Statuses.{memory};
+
+    ghost from_gives = { λ _ e. fault_in e ≡ memory };
+
+    fn from(error: AllocFailed<T>) -> NotAdmitted {
+        NotAdmitted::Refused(Placed::from(error))
     }
 }
 
@@ -58,31 +109,17 @@ fn admitted(
     message: &[u8],
     bounds: &Bounds,
     budget: u64,
-) -> Result<Box<Admitted>, Fault>
+) -> Result<Box<Admitted>, NotAdmitted>
     ensures found { IfOk result (λ admitted.
         IsAdmission message.now bounds.now budget admitted.value) }
-    ensures fault { IfErr result (AdmitFails message.now bounds.now budget) }
+    ensures fault { IfErr result (λ e. AdmitFails message.now bounds.now budget (fault_in e)) }
 {
     let Some(limits) = limits_of(bounds) else {
-        return Err(Fault::OutOfRange);
+        return Err(NotAdmitted::OutOfRange);
     };
     if budget == 0 || budget > MOST_BUDGET {
-        return Err(Fault::OutOfRange);
+        return Err(NotAdmitted::OutOfRange);
     }
-    let admitted = admit(alloc, message, &limits, budget)?;
+    let admitted = admit_at(alloc, message, &limits, budget)?;
     Ok(Box::new(alloc, admitted)?)
-}
-
-/// The place of a refusal in the message, if a part can be named.
-fn place_in(
-    alloc: Global,
-    message: &[u8],
-    fault: Fault,
-    bounds: &Bounds,
-    budget: u64,
-) -> Option<String> {
-    match fault {
-        Fault::Refused(refusal) => place_of(alloc, message, refusal, &limits_of(bounds)?, budget),
-        _ => None,
-    }
 }

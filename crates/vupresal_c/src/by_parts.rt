@@ -1,8 +1,10 @@
 //! Decisions on a request by its parts.
 
-ghost use Rattle.std.specs.Prelude.{◌≡◌, ◌≢◌, IfOk, IfErr, IsSomeAnd};
+ghost use Rattle.std.specs.Prelude.{◌≡◌, ◌≢◌, IfOk, IfErr, IsSomeAnd, IsTrue, Err};
 ghost use Rattle.c_inputs.specs.Facts.{facts_given};
-ghost use Rattle.vupresal_c.specs.Decisions.{AsksByParts, Fails, IsAnswer, IsDecision, PartsFailFor, parts_given, refused};
+ghost use Rattle.c_inputs.specs.Requests.{are_too_long, parts_given};
+ghost use Rattle.rbac_policy.specs.Admitted.{limits_view};
+ghost use Rattle.vupresal_c.specs.Decisions.{AreTooLongFor, AsksByParts, Fails, IsAnswer, IsDecision, PartsFailFor, refused, too_long};
 ghost use Rattle.vupresal_c.specs.Handles.{filter_in};
 ghost use Rattle.vupresal_c.specs.Statuses.{done, status_of};
 ghost use Rattle.vupresal_c.specs.declared.fault.Fault.{Fault as FaultValue};
@@ -10,13 +12,13 @@ ghost use Rattle.vupresal_c.specs.declared.fault.Fault.{Fault as FaultValue};
 use crate::decision::{Decision, answered};
 use crate::fault::Fault;
 use crate::filter::Filter;
-use crate::request::RequestInput;
-use c_inputs::{FactsInput, conn_of};
-use http_front::{HeadParts, request_of_parts};
+use c_inputs::{FactsInput, RequestInput, conn_of};
+use http_front::{HeadFault, HeadParts, request_of_parts};
 use rbac_policy::{Admitted, Verdict};
 use std::alloc::Global;
 
-/// Gives the filter's decision on a request by its parts, with the same statuses as for a head.
+/// Gives the filter's decision on a request by its parts, with the same statuses as for a head. If the lengths of the parts
+/// put it outside the limits, the status is 431, and no byte of a part is read.
 #[unsafe(no_mangle)]
 pub extern "C" fn vupresal_filter_decide(
     alloc: Global,
@@ -30,6 +32,8 @@ pub extern "C" fn vupresal_filter_decide(
     ensures fault { result ≢ done → (e : FaultValue)
         × Fails (filter_in filter.old) (PartsFailFor (parts_given request.now) (facts_given facts.now)) e
         × (result ≡ status_of e) }
+    ensures long { AreTooLongFor (parts_given request.now) (filter_in filter.old)
+        → result ≡ status_of too_long }
     ensures refused { result ≢ done → decision.new ≡ refused }
     ensures kept { filter_in filter.new ≡ filter_in filter.old }
 {
@@ -43,8 +47,29 @@ pub extern "C" fn vupresal_filter_decide(
     }
 }
 
-/// The verdict on a request by its parts.
+/// The verdict on a request by its parts. Their lengths are tested before they are read.
 fn decide_parts(
+    alloc: Global,
+    admitted: &Admitted,
+    request: &RequestInput<'_>,
+    facts: &FactsInput<'_>,
+) -> Result<Verdict, Fault>
+    ensures found { IfOk result
+        (IsAnswer (AsksByParts (parts_given request.now) (facts_given facts.now)) admitted.now) }
+    ensures fault { IfErr result
+        (PartsFailFor (parts_given request.now) (facts_given facts.now) admitted.now) }
+    ensures long { IsTrue (are_too_long (limits_view admitted.now) (parts_given request.now))
+        → result ≡ Err too_long }
+{
+    if request.is_too_long(admitted.limits()) {
+        Err(Fault::Head(HeadFault::OutsideLimits))
+    } else {
+        judge_parts(alloc, admitted, request, facts)
+    }
+}
+
+/// The verdict on a request whose parts are read.
+fn judge_parts(
     alloc: Global,
     admitted: &Admitted,
     request: &RequestInput<'_>,

@@ -12,7 +12,6 @@ mod freeing;
 mod outputs;
 mod proxy;
 mod queries;
-mod request;
 mod settings;
 mod starting;
 mod step;

@@ -1,10 +1,10 @@
 //! The settings of a proxy, as C gives them.
 
-ghost use Rattle.std.specs.Prelude.{◌≡◌, IfOk, IfErr, map};
+ghost use Rattle.std.specs.Prelude.{◌≡◌, IfOk, IfErr, IsTrue, map};
 ghost use Rattle.std.specs.Str.{IsUtf8};
 ghost use Rattle.std.specs.String.{string_bytes};
 ghost use Rattle.ads.specs.Views.{filter_view, filters_view};
-ghost use Rattle.vupresal_c.specs.Settings.{AreTexts, IsConfig, IsNewCore, SettingsFail, TextFails, resource_given, resources_given};
+ghost use Rattle.vupresal_c.specs.Settings.{AreTexts, IsConfig, IsNewCore, SettingsFail, TextFails, are_too_long, has_long_name, is_long_name, resource_given, resources_given};
 
 use crate::fault::Fault;
 use ads::{Config, Filter};
@@ -13,6 +13,11 @@ use c_slots::Core;
 use proxy_core::{Output, Proxy as State};
 use std::alloc::Global;
 use std::str;
+
+// More filters, and longer names, are not read: their number may be wrong.
+const MOST_FILTERS: usize = 8;
+
+const LONGEST_NAME: usize = 256;
 
 /// A filter's resource: its name of 1 to 256 bytes, and the budget of its conditions, 1 to 100,000,000 steps.
 #[repr(C)]
@@ -31,6 +36,31 @@ pub struct Settings<'a> {
     pub cluster: &'a [u8],
     pub filters: &'a [Resource<'a>],
     pub bounds: Bounds,
+}
+
+impl<'a> Settings<'a> {
+    /// Whether the settings are out of range by the lengths of their parts alone. No byte of a name is read.
+    pub(crate) fn are_too_long(&self) -> bool
+        ensures { result ≡ are_too_long self.now }
+    {
+        self.node.len() > LONGEST_NAME
+            || self.cluster.len() > LONGEST_NAME
+            || self.filters.len() > MOST_FILTERS
+            || has_long_name(self.filters)
+    }
+}
+
+/// Whether some resource's name is too long.
+fn has_long_name(resources: &[Resource<'_>]) -> bool
+    ensures { result ≡ has_long_name resources.now }
+{
+    resources.iter().any(|resource| is_long_name(resource))
+}
+
+fn is_long_name(resource: &Resource<'_>) -> bool
+    ensures { result ≡ is_long_name resource.now }
+{
+    resource.name.len() > LONGEST_NAME
 }
 
 /// The core of a new proxy with these settings, in a box.

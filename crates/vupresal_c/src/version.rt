@@ -6,10 +6,9 @@ ghost use Rattle.vupresal_c.specs.Version.{is_proved, number};
 use crate::decision::Decision;
 use crate::filter::Filter;
 use crate::proxy::Proxy;
-use crate::request::RequestInput;
 use crate::settings::{Resource, Settings};
 use crate::step::Given;
-use c_inputs::{Bounds, FactsInput};
+use c_inputs::{Bounds, FactsInput, RequestInput};
 use http_front::Line;
 use std::mem::size_of;
 

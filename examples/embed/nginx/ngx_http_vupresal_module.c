@@ -151,9 +151,8 @@ ngx_http_vupresal_add_verdict(ngx_http_request_t *r)
 static ngx_int_t
 ngx_http_vupresal_judge(ngx_http_request_t *r, ngx_http_vupresal_loc_conf_t *conf, ngx_http_vupresal_verdict_t *verdict)
 {
-    vupresal_facts            facts;
-    vupresal_request          request;
-    ngx_http_vupresal_room_t  room;
+    vupresal_facts    *facts;
+    vupresal_request   request;
 
     ngx_memzero(&verdict->decision, sizeof(vupresal_decision));
     verdict->filter = conf->filter;
@@ -164,14 +163,14 @@ ngx_http_vupresal_judge(ngx_http_request_t *r, ngx_http_vupresal_loc_conf_t *con
         return NGX_OK;
     }
 
-    if (ngx_http_vupresal_facts(r, &room, &facts) != NGX_OK
-        || ngx_http_vupresal_request(r, conf->target, &request) != NGX_OK)
-    {
+    facts = ngx_http_vupresal_facts(r);
+
+    if (facts == NULL || ngx_http_vupresal_request(r, conf->target, &request) != NGX_OK) {
         verdict->status = VUPRESAL_MEMORY;
         return NGX_ERROR;
     }
 
-    verdict->status = vupresal_filter_decide(&conf->filter->filter, &request, &facts, &verdict->decision);
+    verdict->status = vupresal_filter_decide(&conf->filter->filter, &request, facts, &verdict->decision);
     return NGX_OK;
 }
 

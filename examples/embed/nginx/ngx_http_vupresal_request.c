@@ -60,14 +60,14 @@ ngx_http_vupresal_endpoint(vupresal_bytes address, int32_t port, u_char *room)
         sin.sin_family = AF_INET;
         sin.sin_port = htons((in_port_t) port);
         ngx_memcpy(&sin.sin_addr, address.at, 4);
-        end = room + ngx_sock_ntop((struct sockaddr *) &sin, sizeof(sin), room, NGX_SOCKADDR_STRLEN, 1);
+        end = room + ngx_sock_ntop((struct sockaddr *) &sin, sizeof(sin), room, NGX_HTTP_VUPRESAL_ENDPOINT_LEN, 1);
 
     } else if (address.length == 16) {
         ngx_memzero(&sin6, sizeof(sin6));
         sin6.sin6_family = AF_INET6;
         sin6.sin6_port = htons((in_port_t) port);
         ngx_memcpy(&sin6.sin6_addr, address.at, 16);
-        end = room + ngx_sock_ntop((struct sockaddr *) &sin6, sizeof(sin6), room, NGX_SOCKADDR_STRLEN, 1);
+        end = room + ngx_sock_ntop((struct sockaddr *) &sin6, sizeof(sin6), room, NGX_HTTP_VUPRESAL_ENDPOINT_LEN, 1);
 
     } else {
         return (vupresal_text) VUPRESAL_NO_TEXT;
@@ -114,9 +114,9 @@ ngx_http_vupresal_alternative_name(ngx_pool_t *pool, X509 *certificate, int type
 
 
 static ngx_int_t
-ngx_http_vupresal_add_tls(ngx_http_request_t *r, vupresal_facts *facts)
+ngx_http_vupresal_add_tls(ngx_connection_t *c, vupresal_facts *facts)
 {
-    SSL         *ssl = r->connection->ssl->connection;
+    SSL         *ssl = c->ssl->connection;
     X509        *certificate;
     ngx_str_t    subject;
     const char  *text;
@@ -135,14 +135,14 @@ ngx_http_vupresal_add_tls(ngx_http_request_t *r, vupresal_facts *facts)
     facts->mtls = certificate != NULL && SSL_get_verify_result(ssl) == X509_V_OK;
 
     if (facts->mtls == 1) {
-        if (ngx_ssl_get_subject_dn(r->connection, r->pool, &subject) != NGX_OK) {
+        if (ngx_ssl_get_subject_dn(c, c->pool, &subject) != NGX_OK) {
             X509_free(certificate);
             return NGX_ERROR;
         }
 
         facts->subject_peer_certificate = ngx_http_vupresal_text(subject.data, subject.len);
-        facts->dns_san_peer_certificate = ngx_http_vupresal_alternative_name(r->pool, certificate, GEN_DNS);
-        facts->uri_san_peer_certificate = ngx_http_vupresal_alternative_name(r->pool, certificate, GEN_URI);
+        facts->dns_san_peer_certificate = ngx_http_vupresal_alternative_name(c->pool, certificate, GEN_DNS);
+        facts->uri_san_peer_certificate = ngx_http_vupresal_alternative_name(c->pool, certificate, GEN_URI);
     }
 
     X509_free(certificate);
@@ -152,13 +152,14 @@ ngx_http_vupresal_add_tls(ngx_http_request_t *r, vupresal_facts *facts)
 #endif
 
 
-/* The address of the peer of the connection, where realip put another into its place. */
+/* The address of the peer of the connection, in the room if realip put another into its place. */
 static vupresal_bytes
-ngx_http_vupresal_direct_address(ngx_http_request_t *r, vupresal_bytes peer)
+ngx_http_vupresal_direct_address(ngx_http_request_t *r, vupresal_bytes peer, u_char *room)
 {
     int32_t                     port;
     ngx_str_t                   name = ngx_string("realip_remote_addr");
     ngx_addr_t                  addr;
+    vupresal_bytes              direct;
     ngx_http_variable_value_t  *value;
 
     value = ngx_http_get_variable(r, &name, ngx_hash_key(name.data, name.len));
@@ -177,37 +178,108 @@ ngx_http_vupresal_direct_address(ngx_http_request_t *r, vupresal_bytes peer)
         return peer;
     }
 
-    return ngx_http_vupresal_address(addr.sockaddr, &port);
+    direct = ngx_http_vupresal_address(addr.sockaddr, &port);
+    ngx_memcpy(room, direct.at, direct.length);
+    return vupresal_bytes_of(room, direct.length);
 }
 
 
-ngx_int_t
-ngx_http_vupresal_facts(ngx_http_request_t *r, ngx_http_vupresal_room_t *room, vupresal_facts *facts)
+/* The facts that a connection's pool keeps for its next requests. Of all facts only those of the client's address can change: realip
+   puts another address into the place of the peer's for one request. */
+typedef struct {
+    vupresal_facts   facts;
+    socklen_t        socklen;  /* of the client's address; 0 before the first request */
+    ngx_sockaddr_t   client;
+    u_char           direct[16];
+    u_char           source[NGX_HTTP_VUPRESAL_ENDPOINT_LEN];
+    u_char           destination[NGX_HTTP_VUPRESAL_ENDPOINT_LEN];
+} ngx_http_vupresal_kept_t;
+
+
+/* Marks the facts among the cleanups of the connection's pool; there is nothing to clean. */
+static void
+ngx_http_vupresal_mark_facts(void *data)
 {
-    ngx_connection_t  *c = r->connection;
+    (void) data;
+}
+
+
+/* The facts that do not change. */
+static ngx_int_t
+ngx_http_vupresal_begin_facts(ngx_connection_t *c, ngx_http_vupresal_kept_t *kept)
+{
+    vupresal_facts  *facts = &kept->facts;
 
     *facts = (vupresal_facts) VUPRESAL_NO_FACTS;
+    kept->socklen = 0;
 
     if (ngx_connection_local_sockaddr(c, NULL, 0) != NGX_OK) {
         return NGX_ERROR;
     }
 
-    facts->remote_ip = ngx_http_vupresal_address(c->sockaddr, &facts->source_port);
-    facts->direct_remote_ip = ngx_http_vupresal_direct_address(r, facts->remote_ip);
     facts->destination_ip = ngx_http_vupresal_address(c->local_sockaddr, &facts->destination_port);
-    facts->source_address = ngx_http_vupresal_endpoint(facts->remote_ip, facts->source_port, room->source);
-    facts->destination_address = ngx_http_vupresal_endpoint(facts->destination_ip, facts->destination_port, room->destination);
+    facts->destination_address = ngx_http_vupresal_endpoint(facts->destination_ip, facts->destination_port, kept->destination);
     facts->mtls = 0;
     facts->connection_id = c->number;
     facts->has_connection_id = true;
 
 #if (NGX_HTTP_SSL)
     if (c->ssl) {
-        return ngx_http_vupresal_add_tls(r, facts);
+        return ngx_http_vupresal_add_tls(c, facts);
     }
 #endif
 
     return NGX_OK;
+}
+
+
+/* The facts that the connection's pool keeps, which has them from the first request on; NULL where nginx has no memory. */
+static ngx_http_vupresal_kept_t *
+ngx_http_vupresal_kept_facts(ngx_connection_t *c)
+{
+    ngx_pool_cleanup_t  *cleanup;
+
+    for (cleanup = c->pool->cleanup; cleanup; cleanup = cleanup->next) {
+        if (cleanup->handler == ngx_http_vupresal_mark_facts) {
+            return cleanup->data;
+        }
+    }
+
+    cleanup = ngx_pool_cleanup_add(c->pool, sizeof(ngx_http_vupresal_kept_t));
+
+    if (cleanup == NULL || ngx_http_vupresal_begin_facts(c, cleanup->data) != NGX_OK) {
+        return NULL;
+    }
+
+    cleanup->handler = ngx_http_vupresal_mark_facts;
+    return cleanup->data;
+}
+
+
+vupresal_facts *
+ngx_http_vupresal_facts(ngx_http_request_t *r)
+{
+    ngx_connection_t          *c = r->connection;
+    vupresal_facts            *facts;
+    ngx_http_vupresal_kept_t  *kept = ngx_http_vupresal_kept_facts(c);
+
+    if (kept == NULL) {
+        return NULL;
+    }
+
+    facts = &kept->facts;
+
+    if (kept->socklen == c->socklen && ngx_memcmp(&kept->client, c->sockaddr, c->socklen) == 0) {
+        return facts;
+    }
+
+    kept->socklen = ngx_min(c->socklen, (socklen_t) sizeof(ngx_sockaddr_t));
+    ngx_memcpy(&kept->client, c->sockaddr, kept->socklen);
+
+    facts->remote_ip = ngx_http_vupresal_address(&kept->client.sockaddr, &facts->source_port);
+    facts->direct_remote_ip = ngx_http_vupresal_direct_address(r, facts->remote_ip, kept->direct);
+    facts->source_address = ngx_http_vupresal_endpoint(facts->remote_ip, facts->source_port, kept->source);
+    return facts;
 }
 
 

@@ -7,7 +7,7 @@ static size_t length;
 static const vupresal_bounds greatest = {0};
 static const vupresal_facts bare = VUPRESAL_NO_FACTS;
 /* More bytes than there are anywhere. No caller may say so; but a message or a head is read no further than it makes sense, and an
-   absent text or an address of a wrong length is not read. */
+   absent text, an address of a wrong length or a part outside the limits is not read. */
 static const size_t ENDLESS = (size_t)1 << 63;
 
 static int32_t admit(vupresal_filter *filter, const uint8_t *bytes, size_t count) {
@@ -166,6 +166,49 @@ static void parts(vupresal_filter *filter) {
   CHECK(passes(filter));
 }
 
+/* A part that is longer than any request within the limits has is not read. */
+static void lengths(vupresal_filter *filter) {
+  const size_t sizes[] = {65537, ENDLESS, SIZE_MAX};
+  for (size_t at = 0; at < 3; at++) {
+    const vupresal_bytes far = vupresal_bytes_of("a", sizes[at]);
+    vupresal_line lines[] = {{text("host"), text("h")}, {text("x"), text("v")}};
+    const vupresal_request good = {text("GET"), text("/"), lines, 2, true};
+    vupresal_request request = good;
+    request.method = far;
+    no_decision_of(filter, &request, VUPRESAL_OUTSIDE_LIMITS);
+    request = good, request.target = far;
+    no_decision_of(filter, &request, VUPRESAL_OUTSIDE_LIMITS);
+    request = good, request.line_count = sizes[at];
+    no_decision_of(filter, &request, VUPRESAL_OUTSIDE_LIMITS);
+    request = good, lines[1].value = far;
+    no_decision_of(filter, &request, VUPRESAL_OUTSIDE_LIMITS);
+    lines[1].name = far, lines[1].value = text("v");
+    no_decision_of(filter, &request, VUPRESAL_OUTSIDE_LIMITS);
+  }
+  /* the limits are those of the filter */
+  const vupresal_bounds bounds = {5, 10, 4, 3, 2, 20};
+  vupresal_filter small = {0};
+  CHECK_STATUS(vupresal_filter_admit(&small, message, length, &bounds, VUPRESAL_MOST_BUDGET, NULL, 0), VUPRESAL_OK);
+  vupresal_line lines[6];
+  for (size_t at = 0; at < 6; at++) lines[at] = (vupresal_line){text("host"), text("h")};
+  vupresal_request request = {text("GET"), text("/a"), lines, 1, true};
+  vupresal_decision decision = stale();
+  CHECK_STATUS(vupresal_filter_decide(&small, &request, &bare, &decision), VUPRESAL_OK);
+  request.line_count = 5; /* five hosts */
+  no_decision_of(&small, &request, VUPRESAL_BAD_REQUEST);
+  request.line_count = 6;
+  no_decision_of(&small, &request, VUPRESAL_OUTSIDE_LIMITS);
+  request.line_count = 1, request.method = vupresal_bytes_of("G T", 4);
+  no_decision_of(&small, &request, VUPRESAL_OUTSIDE_LIMITS);
+  request.method = text("G T");
+  no_decision_of(&small, &request, VUPRESAL_BAD_REQUEST);
+  request.method = text("GET"), request.target = vupresal_bytes_of("//", 3);
+  no_decision_of(&small, &request, VUPRESAL_OUTSIDE_LIMITS);
+  request.target = text("/"), lines[0].name = vupresal_bytes_of("0123456789", 11);
+  no_decision_of(&small, &request, VUPRESAL_OUTSIDE_LIMITS);
+  vupresal_filter_free(&small);
+}
+
 static void facts(vupresal_filter *filter) {
   static char large[1025];
   memset(large, 'a', sizeof large);
@@ -265,6 +308,20 @@ static void proxies(void) {
     CHECK_STATUS(vupresal_proxy_new(&proxy, &settings), VUPRESAL_OUT_OF_RANGE);
     settings.bounds.fields = 0, settings.node = text("\xff");
     CHECK_STATUS(vupresal_proxy_new(&proxy, &settings), VUPRESAL_OUT_OF_RANGE);
+    /* names and filters beyond their greatest number are not read */
+    const size_t sizes[] = {257, ENDLESS, SIZE_MAX};
+    for (size_t at = 0; at < 3; at++) {
+      const vupresal_bytes far = vupresal_bytes_of("a", sizes[at]);
+      settings.node = far;
+      CHECK_STATUS(vupresal_proxy_new(&proxy, &settings), VUPRESAL_OUT_OF_RANGE);
+      settings.node = text("n"), settings.cluster = far;
+      CHECK_STATUS(vupresal_proxy_new(&proxy, &settings), VUPRESAL_OUT_OF_RANGE);
+      settings.cluster = text("c"), settings.filter_count = sizes[at];
+      CHECK_STATUS(vupresal_proxy_new(&proxy, &settings), VUPRESAL_OUT_OF_RANGE);
+      settings.filters = many, settings.filter_count = 1, many[0] = (vupresal_resource){far, 1};
+      CHECK_STATUS(vupresal_proxy_new(&proxy, &settings), VUPRESAL_OUT_OF_RANGE);
+      settings.filters = &one;
+    }
     CHECK_STATUS(vupresal_proxy_http_bytes(&proxy, 3, plain, PLAIN_LENGTH, &given), VUPRESAL_OK);
     CHECK(given.http_length > 0);
     CHECK_STATUS(vupresal_proxy_ads_bytes(&proxy, (const uint8_t *)"\xff\xff\xff\xff\xff", 5, &given), VUPRESAL_OK);
@@ -283,6 +340,7 @@ int main(int count, char **words) {
   admissions(&filter);
   heads(&filter);
   parts(&filter);
+  lengths(&filter);
   facts(&filter);
   names(&filter);
   proxies();

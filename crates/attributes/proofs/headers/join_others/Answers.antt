@@ -1,8 +1,7 @@
 -- Each field is joined to those before it.
-use Rattle.std.proofs.Common.{◌≡◌, ◌<◌, ◌∙◌, length, ap, arith}
+use Rattle.std.proofs.Common.{◌<◌, ◌∙◌, length, ap, arith}
 use Rattle.std.specs.FinMap.{entries}
 use Rattle.attributes.specs.Headers.{headers_of}
-use Rattle.attributes.specs.steps.Parts.{entries_in}
 use Rattle.attributes.proofs.JoinSteps.{other_follows, other_kept, other_more, other_named}
 use Rattle.attributes.proofs.Parts.{begins_trans}
 use Rattle.attributes.proofs.headers.join_others.Goals as goal

@@ -1,5 +1,5 @@
 -- The first value ends the text, and a comma and the second are appended.
-use Rattle.std.proofs.Common.{◌≡◌, ◌≤◌, ◌+◌, ◌++◌, ◌∷◌, ◌∙◌, [], ℕ, List, length, ap, sym, arith, length-append}
+use Rattle.std.proofs.Common.{◌≡◌, ◌≤◌, ◌++◌, ◌∷◌, ◌∙◌, [], ℕ, List, length, ap, arith, length-append}
 use Rattle.std.proofs.lemmas.Grind.{common_steps}
 use Rattle.attributes.specs.steps.Parts.{part_of}
 use Rattle.attributes.proofs.Parts.{at_end, begins_more, joined_end, joined_utf8, part_kept}

@@ -10,8 +10,7 @@ use Rattle.attributes.proofs.request.sorted_headers.Goals as goal
 
 pub join_sorted-requires-clause-parts : goal.join_sorted-requires-clause-parts
 join_sorted-requires-clause-parts c =
-    rw c.as_slice-2.ensures.value
-    ((rw c.as_slice.ensures.value at c.in_ok-sort_by_name.ensures.parts) c.requires)
+    (rw c.as_slice.ensures.value at c.in_ok-sort_by_name.ensures.parts) c.requires
 
 pub new-requires : goal.new-requires
 new-requires c = record {
@@ -26,7 +25,7 @@ returns-clause-joined c =
     let gs = c.sort_by_name.new.fields.items in
     let joined : entries_in c.join_sorted.new.text.items c.in_ok-joined.joined.items
     ≡ entries (headers_of (entries_in t gs)) =
-    rw c.as_slice-2.ensures.value at c.in_ok-joined.ensures.joined in
+    c.in_ok-joined.ensures.joined in
     let same : (name : List ℕ) → values_of name (entries_in t gs) ≡ values_of name (entries_in t fs) =
     λ name. rw c.as_slice.ensures.value at c.in_ok-sort_by_name.ensures.stable name in
     c.new.ensures ∙ joined ∙ ap entries (headers_of_same (entries_in t fs) (entries_in t gs) same)

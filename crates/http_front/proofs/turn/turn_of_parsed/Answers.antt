@@ -8,11 +8,11 @@ pub returns-in-Whole-clause-found : goal.returns-in-Whole-clause-found
 returns-in-Whole-clause-found c =
     MatchResult-weaker c.turn_of_head.result c.turn_of_head.ensures
     (λ turn is bytes few parsed.
-    head_turn c.args.limits.now (conn_view c.args.conn.now) c.args.count bytes c.in-Whole.head
+    head_turn c.args.limits.now (conn_view c.args.conn.now.value) c.args.count bytes c.in-Whole.head
     c.in-Whole.rest.now (c.args.count - length c.in-Whole.rest.now) turn few (rw c.in-Whole.is at parsed) refl is)
     (λ e h. h)
 
 pub returns-in-Hopeless-clause-found : goal.returns-in-Hopeless-clause-found
 returns-in-Hopeless-clause-found c bytes few parsed =
-    hopeless_turn c.args.limits.now (conn_view c.args.conn.now) c.args.count bytes c.in-Hopeless.part
+    hopeless_turn c.args.limits.now (conn_view c.args.conn.now.value) c.args.count bytes c.in-Hopeless.part
     (rw c.in-Hopeless.is at parsed)

@@ -1,8 +1,9 @@
 use Rattle.std.proofs.Common.{rules, ◌≡◌, ◌∙◌, refl, sym, arith, to_z, of_z, to_z-of_z, w32}
 use Rattle.c_inputs.specs.Facts.{facts_given}
-use Rattle.vupresal_c.specs.Decisions.{AsksByParts, parts_given}
+use Rattle.c_inputs.specs.Requests.{parts_given}
+use Rattle.vupresal_c.specs.Decisions.{AsksByParts, too_long}
 use Rattle.vupresal_c.specs.declared.fault.Fault.TheVariants.{Empty}
-use Rattle.vupresal_c.proofs.Deciding.{decided}
+use Rattle.vupresal_c.proofs.Deciding.{decided, told}
 use Rattle.vupresal_c.proofs.by_parts.vupresal_filter_decide.Goals as goal
 
 pub returns-in-None-clause-fault : goal.returns-in-None-clause-fault
@@ -17,3 +18,9 @@ returns-in-Some-clause-found c =
     (AsksByParts (parts_given c.args.request.now) (facts_given c.args.facts.now)) c.in-Some.admitted.value _ _
     c.answered.ensures.found c.answered.ensures.fault (rw c.deref.ensures at c.decide_parts-answer.ensures.found)
     (sym same ∙ is))
+
+pub returns-in-Some-clause-long : goal.returns-in-Some-clause-long
+returns-in-Some-clause-long c =
+    let same : to_z w32 (of_z w32 c.answered.result) ≡ c.answered.result = search rules in
+    λ long. same ∙ told c.decide_parts-answer.result too_long _ _ c.answered.ensures.fault
+    (c.decide_parts-answer.ensures.long (rw (c.in-Some.ensures.taken, ← c.deref.ensures) at long))

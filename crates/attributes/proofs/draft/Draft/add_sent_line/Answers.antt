@@ -1,9 +1,5 @@
 -- The field is added, or the draft is as it was, in a longer text.
-use Rattle.std.proofs.Common.{◌≡◌, ◌∙◌, ℕ, List, map, ap, sym}
-use Rattle.std.specs.Char.{to_ascii_lowercase}
-use Rattle.attributes.specs.Headers.{Entry, header_name}
-use Rattle.attributes.specs.Draft.{with_entry}
-use Rattle.attributes.specs.steps.Drafts.{draft_in}
+use Rattle.std.proofs.Common.{ℕ, List}
 use Rattle.attributes.specs.steps.Parts.{Begins, part_of}
 use Rattle.attributes.proofs.Drafts.{draft_either, draft_more, value_either}
 use Rattle.attributes.proofs.Parts.{begins_trans}

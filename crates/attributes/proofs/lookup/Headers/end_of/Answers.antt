@@ -1,5 +1,5 @@
 -- The place of the name is that of a header whose value ends with these bytes.
-use Rattle.std.proofs.Common.{◌≡◌, ◌<◌, ◌∙◌, ℕ, List, length, get_or, sym}
+use Rattle.std.proofs.Common.{◌<◌, ℕ, List, length, get_or}
 use Rattle.std.proofs.lemmas.List.{get_or_default}
 use Rattle.attributes.specs.declared.headers.Field.{Field}
 use Rattle.attributes.proofs.Spots.{end_spot}
@@ -17,8 +17,8 @@ returns c =
     let i : ℕ = c.in-Ok.index in
     let f : Field = get_or fs i none in
     let below : i < length fs = rw c.as_slice-fields.ensures.value at c.in-Ok.ensures.bound in
-    let place = (rw (c.as_slice.ensures.value, c.as_slice-fields.ensures.value) at
-    c.in-Ok.ensures.place) c.self.invariant.ascending in
+    let place = rw (c.as_slice.ensures.value, c.as_slice-fields.ensures.value) at
+    c.in-Ok.ensures.place in
     λ front end split count text.
     rw (← c.self.view_is, c.end_at.ensures, c.as_slice-fields.ensures.value)
     (end_spot t fs i c.args.count f c.args.name.now place.0 front end c.self.invariant below

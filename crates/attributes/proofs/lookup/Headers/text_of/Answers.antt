@@ -1,8 +1,8 @@
 -- A part of a header's value is a part of the text.
-use Rattle.std.proofs.Common.{◌≡◌, ◌+◌, ◌<◌, ◌∙◌, ℕ, List, length, refl, arith}
+use Rattle.std.proofs.Common.{◌<◌, ◌∙◌, ℕ, List, length, refl, arith}
 use Rattle.std.proofs.lemmas.List.{length-map}
 use Rattle.attributes.specs.declared.headers.Field.{Field}
-use Rattle.attributes.specs.steps.Parts.{IsAt, IsSpot, entries_in, entry_in, spot_of}
+use Rattle.attributes.specs.steps.Parts.{IsSpot, entries_in, entry_in}
 use Rattle.attributes.proofs.Spots.{field_at, spot_part}
 use Rattle.attributes.proofs.lookup.Headers.text_of.Goals as goal
 
