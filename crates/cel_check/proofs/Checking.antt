@@ -15,11 +15,12 @@ use Rattle.cel_value.specs.declared.cel_type.KeyType.TheVariants as keys
 use Rattle.cel_types.specs.Elaborated.{ElaboratesEach, ElaboratesPairs, ElaboratesTarget, TypedTree, TypedTrees, kind, kinds, no_typed, typed, typed_list, typed_loop, typed_map}
 use Rattle.cel_types.specs.Names.{bound, joined_name, root_of, turn_scope, variables_of}
 use Rattle.cel_types.specs.Typing.{EachAgrees, EntriesAgree, EntryAgrees, ListRule, MapRule, IsOver, Kinds, Maps, NamesDiffer, PairsAgree, TargetAgrees, TypeAgrees, Types, TypesAll, TypesEach, TypesPairs, TypesTarget, has_target, locals_in, locals_in_each, locals_in_entries}
-use Rattle.cel_types.specs.TypingFaults.{CallsFault, ElementsFault, NodeTypeFault, ItemTypes, KeyTypes, PairFault, PairsFault, SelectFault, SomeFault, SomeTypes, TargetFault, TypeFault}
-use Rattle.cel_types.specs.TypingFaults.{unsupported_kind, another_type, no_element_name, no_accumulator_name, one_name, one_variable, second_accumulator, no_elements, no_condition, no_step, in_range, in_init, in_turn as faulty_turn, in_result}
+use Rattle.cel_types.specs.TypingFaults.{CallsFault, ElementsFault, NodeTypeFault, ItemTypes, KeyTypes, PairsFault, SelectFault, SomeTypes}
+use Rattle.cel_types.specs.TypingFaults.{unsupported_kind, another_type, no_element_name, no_accumulator_name, one_name, one_variable, second_accumulator, no_elements, no_condition, no_step}
 use Rattle.cel_types.specs.View.{expr_view, typed_of}
 use Rattle.cel_types.specs.steps.ExprViews.{exprs_view}
-use Rattle.cel_check.specs.steps.Checks.{AreFound, AreTwo, BodyFault, EitherFault, InsideAgrees, IsBody, IsAttribute, IsCalled, IsFound, IsNode, IsTarget, IsTurn, NamesFault, TurnFault, id_of}
+use Rattle.cel_check.specs.Places.{OwnFault, PairFaultAt, SomeFaultAt, TypeFaultAt, id_of}
+use Rattle.cel_check.specs.steps.Checks.{AreFound, AreTwo, BodyFault, EitherFault, InsideAgrees, IsBody, IsAttribute, IsCalled, IsFound, IsNode, IsTarget, IsTurn, NamesFault, PlacedInside, TurnFault}
 use Rattle.cel_check.specs.steps.Kinds.{IsListOf, IsMapOf, NoCall, NoElements, NoListOf, NoMapOf, each_view, field_of, in_turn, second_type}
 use Rattle.cel_check.specs.declared.checker.kinds.TurnTypes.{TurnTypes}
 use Rattle.cel_types.specs.declared.typed.Variables.{Variables}
@@ -29,6 +30,7 @@ use Rattle.cel_tree.specs.steps.TreeViews.{entry_view, tree_entries_view, trees_
 use Rattle.cel_types.proofs.OneType.{OneAtMost, one_type, over_one}
 use Rattle.cel_types.proofs.TurnScopes.{over_length}
 use Rattle.cel_types.proofs.Total.{same_type, typed_no_root}
+use Rattle.proto_wire.specs.Places.{Path}
 use Rattle.proto_wire.specs.declared.refusal.Refusal.{Refusal}
 use Rattle.proto_wire.specs.declared.refusal.Refusal.TheVariants.{NoOverload}
 pub use Rattle.cel_types.proofs.WellTypedElaborations.{elaborates_types as types_of}
@@ -62,7 +64,7 @@ entry_fault entry Has t e has (another_type s u is said differs err) =
     another_type s u (subst Has (sym is) has) said differs err
 
 pub node_fault : (m : Maps) (ks : Kinds) (t : CelTree) (s : ValueType) (e : Refusal)
-    → Types m ks t s → NodeTypeFault (get m.types (id_of t)) (Types m ks t) e → TypeFault m ks t e
+    → Types m ks t s → NodeTypeFault (get m.types (id_of t)) (Types m ks t) e → OwnFault m ks t e
 node_fault m ks (constant id v) s e g f = inr f
 node_fault m ks (ident id name) s e g f = inr (typed_no_root name ks s g, f)
 node_fault m ks (select id operand field test_only) s e g f = inr f
@@ -96,7 +98,7 @@ node_found m ks t e node agrees =
 
 -- one whose type entry does not agree has a fault
 pub entry_wrong : (m : Maps) (ks : Kinds) (t : CelTree) (e : TypedTree) → IsNode m ks t e
-    → (d : Refusal) → NodeTypeFault (get m.types (id_of t)) (λ u. u ≡ kind e) d → TypeFault m ks t d
+    → (d : Refusal) → NodeTypeFault (get m.types (id_of t)) (λ u. u ≡ kind e) d → OwnFault m ks t d
 entry_wrong m ks t e node d f =
     let has = types_of m ks t e node.0 in
     node_fault m ks t (kind e) d has
@@ -115,7 +117,7 @@ attribute_found m ks id operand root field test_only e is (plain, a, named, same
 pub attribute_bad : (m : Maps) (ks : Kinds) (id : ℤ) (operand : CelTree) (root field : List ℕ)
     (test_only : Bool) (e : Refusal) → root_of operand ks ≡ Some root
     → SelectFault (get m.refs id) (Some root) (λ _. ⊥) (λ _. ⊥) field test_only e
-    → TypeFault m ks (select id operand field test_only) e
+    → OwnFault m ks (select id operand field test_only) e
 attribute_bad m ks id operand root field test_only e is (SelectFault.unknown r at none err) =
     inl (SelectFault.unknown r (is ∙ at) none err)
 attribute_bad m ks id operand root field test_only e is (SelectFault.asked r at asked err) =
@@ -140,16 +142,11 @@ field_found m ks id operand field false on t is found map =
     subst (Types m ks operand) map (types_of m ks operand on found.0) in
     rw is (((t, has, refl), refl, refl, refl, found.0), found.1)
 
-pub operand_bad : (m : Maps) (ks : Kinds) (id : ℤ) (operand : CelTree) (field : List ℕ)
-    (test_only : Bool) (e : Refusal) → root_of operand ks ≡ None → TypeFault m ks operand e
-    → TypeFault m ks (select id operand field test_only) e
-operand_bad m ks id operand field test_only e is bad = inl (SelectFault.in_operand is bad)
-
 pub field_bad : (m : Maps) (ks : Kinds) (id : ℤ) (operand : CelTree) (field : List ℕ)
     (test_only : Bool) (on : TypedTree) (e : Refusal) → root_of operand ks ≡ None
     → IsFound m ks operand on
     → ((t : ValueType) → kind on ≢ map_type keys.Text t) → e ≡ NoOverload
-    → TypeFault m ks (select id operand field test_only) e
+    → OwnFault m ks (select id operand field test_only) e
 field_bad m ks id operand field test_only on e is found never err =
     inl (SelectFault.no_names (kind on) is (types_of m ks operand on found.0) never err)
 
@@ -176,18 +173,10 @@ module _ (m : Maps) (ks : Kinds) (id : ℤ) (name : List ℕ) (ts : CelTrees) wh
         (all.1, all.2),
       )
 
-  pub target_bad : (on : CelTarget) (e : Refusal) → TargetFault m ks on e
-      → TypeFault m ks (call id name on ts) e
-  target_bad on e bad = inl (CallsFault.in_operand (inl bad))
-
-  pub args_bad : (on : CelTarget) (e : Refusal) → SomeFault m ks ts e
-      → TypeFault m ks (call id name on ts) e
-  args_bad on e bad = inl (CallsFault.in_operand (inr bad))
-
   pub call_bad : (on : CelTarget) (before es : List TypedTree) (e : Refusal)
       → IsTarget m ks on before → AreFound m ks ts before es
       → NoCall name (has_target on) (kinds (typed_of es)) e
-      → TypeFault m ks (call id name on ts) e
+      → OwnFault m ks (call id name on ts) e
   call_bad on before es e first others (inl (none, err)) = inl (CallsFault.unknown none err)
   call_bad on before es e first others (inr (never, err)) =
       let all = operands on before es first others in
@@ -243,14 +232,9 @@ module _ (m : Maps) (ks : Kinds) where
       subst (λ l. ElaboratesEach m ks ts (typed_of l)) (sym same) g in
       ((list_rule (get m.types id) ts es t found is, found), agree)
 
-  pub elements_bad : (id : ℤ) (ts : CelTrees) (e : Refusal) → SomeFault m ks ts e
-      → TypeFault m ks (list_literal id ts) e
-  elements_bad id no_trees e f = absurd f
-  elements_bad id (tree t ts) e f = inl (ElementsFault.in_element f)
-
   list_wrong : (id : ℤ) (ts : CelTrees) (es : List TypedTree) (e : Refusal)
       → ElaboratesEach m ks ts (typed_of es) → NoListOf (get m.types id) (kinds (typed_of es)) e
-      → TypeFault m ks (list_literal id ts) e
+      → OwnFault m ks (list_literal id ts) e
   list_wrong id no_trees [] e g (inl bad) = inl bad
   list_wrong id no_trees [] e g (inr (is, err)) = inr (unsupported_kind is err)
   list_wrong id no_trees (x ∷ es) e g f = absurd g
@@ -262,7 +246,7 @@ module _ (m : Maps) (ks : Kinds) where
 
   pub list_bad : (id : ℤ) (ts : CelTrees) (es : List TypedTree) (e : Refusal)
       → AreFound m ks ts [] es → NoListOf (get m.types id) (kinds (typed_of es)) e
-      → TypeFault m ks (list_literal id ts) e
+      → OwnFault m ks (list_literal id ts) e
   list_bad id ts es e (others, same, g, agree) f =
       list_wrong id ts es e (subst (λ l. ElaboratesEach m ks ts (typed_of l)) (sym same) g) f
 
@@ -326,14 +310,9 @@ module _ (m : Maps) (ks : Kinds) where
       → IsNode m ks (map_literal id es) (typed_map t ps)
   map_found id es ps t g agree is = ((map_rule (get m.types id) es ps t g is, g), agree)
 
-  pub pairs_bad : (id : ℤ) (es : CelTreeEntries) (e : Refusal) → PairFault m ks es e
-      → TypeFault m ks (map_literal id es) e
-  pairs_bad id no_tree_entries e f = absurd f
-  pairs_bad id (tree_entry i key value es) e f = inl (PairsFault.in_entry f)
-
   pub map_bad : (id : ℤ) (es : CelTreeEntries) (ps : TypedTrees) (e : Refusal)
       → ElaboratesPairs m ks es ps → NoMapOf (get m.types id) (kinds ps) e
-      → TypeFault m ks (map_literal id es) e
+      → OwnFault m ks (map_literal id es) e
   map_bad id no_tree_entries no_typed e g (inl bad) = inl bad
   map_bad id no_tree_entries no_typed e g (inr (is, err)) = inr (unsupported_kind is err)
   map_bad id no_tree_entries (typed k ps) e g f = absurd g
@@ -375,24 +354,18 @@ module _ (m : Maps) (ks : Kinds) (id : ℤ) (p : LoopParts) where
   vars = variables_of p.iter_var2
 
   pub names_bad : (e : Refusal) → NamesFault p.iter_var p.iter_var2 p.accu_var e
-      → TypeFault m ks (loop_of id p) e
+      → OwnFault m ks (loop_of id p) e
   names_bad e (inl (none, err)) = inl (no_element_name none err)
   names_bad e (inr (inl (none, err))) = inl (no_accumulator_name none err)
   names_bad e (inr (inr (inl (same, err)))) = inl (one_name same err)
   names_bad e (inr (inr (inr (some, inl same, err)))) = inl (one_variable some same err)
   names_bad e (inr (inr (inr (some, inr same, err)))) = inl (second_accumulator some same err)
 
-  pub range_bad : (e : Refusal) → TypeFault m ks p.iter_range e → TypeFault m ks (loop_of id p) e
-  range_bad e f = inl (in_range f)
-
-  pub init_bad : (e : Refusal) → TypeFault m ks p.accu_init e → TypeFault m ks (loop_of id p) e
-  init_bad e f = inl (in_init f)
-
   module _ (r : TypedTree) (range : IsFound m ks p.iter_range r) where
     has_range : Types m ks p.iter_range (kind r)
     has_range = types_of m ks p.iter_range r range.0
 
-    pub elements_none : (e : Refusal) → NoElements vars (kind r) e → TypeFault m ks (loop_of id p) e
+    pub elements_none : (e : Refusal) → NoElements vars (kind r) e → OwnFault m ks (loop_of id p) e
     elements_none e never = inl (no_elements (kind r) has_range never.0 never.1)
 
     module _ (i : TypedTree) (init : IsFound m ks p.accu_init i) (each : List ValueType)
@@ -400,18 +373,18 @@ module _ (m : Maps) (ks : Kinds) (id : ℤ) (p : LoopParts) where
       has_init : Types m ks p.accu_init (kind i)
       has_init = types_of m ks p.accu_init i init.0
 
-      pub turn_bad : (e : Refusal)
-          → TurnFault m (turn_of each (kind i)) p.loop_condition p.loop_step (kind i) e
-          → TypeFault m ks (loop_of id p) e
-      turn_bad e (inl f) = inl (faulty_turn each (kind i) (kind r, has_range, over) has_init f)
-      turn_bad e (inr (inl (f, err))) =
-          inl (no_condition each (kind i) f.0 (kind r, has_range, over) has_init f.1 f.2 err)
-      turn_bad e (inr (inr (f, err))) =
-          inl (no_step each (kind i) f.0 (kind r, has_range, over) has_init f.1 f.2 err)
+      pub turn_bad : (path : Path) (e : Refusal)
+          → TurnFault m (turn_of each (kind i)) p.loop_condition p.loop_step (kind i) path e
+          → PlacedInside m ks (loop_of id p) path e
+      turn_bad path e (inl f) = inr (inr (inl (each, kind i, (kind r, has_range, over), has_init, f)))
+      turn_bad path e (inr (none, inl (f, err))) =
+          inl (none, inl (no_condition each (kind i) f.0 (kind r, has_range, over) has_init f.1 f.2 err))
+      turn_bad path e (inr (none, inr (f, err))) =
+          inl (none, inl (no_step each (kind i) f.0 (kind r, has_range, over) has_init f.1 f.2 err))
 
-      pub result_bad : (e : Refusal) → TypeFault m ((p.accu_var, kind i) ∷ ks) p.result e
-          → TypeFault m ks (loop_of id p) e
-      result_bad e f = inl (in_result (kind i) has_init f)
+      pub result_bad : (path : Path) (e : Refusal) → TypeFaultAt m ((p.accu_var, kind i) ∷ ks) p.result path e
+          → PlacedInside m ks (loop_of id p) path e
+      result_bad path e f = inr (inr (inr (kind i, has_init, f)))
 
       pub loop_found : NamesDiffer p.iter_var p.iter_var2 p.accu_var → (c u e : TypedTree)
           → IsTurn m (turn_of each (kind i)) p.loop_condition p.loop_step (kind i) c u
@@ -458,16 +431,16 @@ module _ (m : Maps) (ks : Kinds) (id : ℤ) (p : LoopParts) where
       )
 
   -- both parts that have no locals of their own
-  pub ends_bad : (e : Refusal) → EitherFault m ks p.iter_range p.accu_init e → TypeFault m ks (loop_of id p) e
-  ends_bad e (inl f) = range_bad e f
-  ends_bad e (inr f) = init_bad e f
+  pub ends_bad : (path : Path) (e : Refusal) → EitherFault m ks p.iter_range p.accu_init path e
+      → PlacedInside m ks (loop_of id p) path e
+  ends_bad path e f = inr (inl f)
 
   -- those that have
-  pub body_bad : (r i : TypedTree) → AreTwo m ks p.iter_range p.accu_init r i → (e : Refusal)
-      → BodyFault m ks p (kind r) (kind i) e → TypeFault m ks (loop_of id p) e
-  body_bad r i two e (inl never) = elements_none r two.0 e never
-  body_bad r i two e (inr (each, over, inl turn)) = turn_bad r two.0 i two.1 each over e turn
-  body_bad r i two e (inr (each, over, inr f)) = result_bad r two.0 i two.1 each over e f
+  pub body_bad : (r i : TypedTree) → AreTwo m ks p.iter_range p.accu_init r i → (path : Path) (e : Refusal)
+      → BodyFault m ks p (kind r) (kind i) path e → PlacedInside m ks (loop_of id p) path e
+  body_bad r i two path e (inl (none, never)) = inl (none, elements_none r two.0 e never)
+  body_bad r i two path e (inr (each, over, inl turn)) = turn_bad r two.0 i two.1 each over path e turn
+  body_bad r i two path e (inr (each, over, inr f)) = result_bad r two.0 i two.1 each over path e f
 
   pub body_found : NamesDiffer p.iter_var p.iter_var2 p.accu_var → (r i c u e : TypedTree)
       → AreTwo m ks p.iter_range p.accu_init r i → IsBody m ks p (kind r) (kind i) c u e
@@ -522,40 +495,27 @@ pairs_push m ks ts t es k v g agree key value = (each ts es g, all ts agree)
     all [] a = (key.1, value.1, tt)
     all (x ∷ ts) a = (a.0, a.1, all ts a.2)
 
--- a fault of one is a fault of them all
-pub some_bad : (m : Maps) (ks : Kinds) (ts us : List CelTree) (t : CelTree) (e : Refusal)
-    → TypeFault m ks t e → SomeFault m ks (trees_of (ts ++ (t ∷ us))) e
-some_bad m ks [] us t e f = inl f
-some_bad m ks (x ∷ ts) us t e f = inr (some_bad m ks ts us t e f)
-
-pub pair_bad : (m : Maps) (ks : Kinds) (ts us : List EntryParts) (t : EntryParts) (e : Refusal)
-    → TypeFault m ks t.key e ⊎ TypeFault m ks t.value e
-    → PairFault m ks (tree_entries_of (ts ++ (t ∷ us))) e
-pair_bad m ks [] us t e (inl f) = inl f
-pair_bad m ks [] us t e (inr f) = inr (inl f)
-pair_bad m ks (x ∷ ts) us t e f = inr (inr (pair_bad m ks ts us t e f))
-
 -- ---- one of the trees of a slice
 
 module _ (m : Maps) (ks : Kinds) where
-  pub some_at : (ts : List Tree) (i : ℕ) (d : Tree) (e : Refusal) → i < length ts → d ≡ get_or ts i d
-      → TypeFault m ks (tree_view d) e → SomeFault m ks (trees_view ts) e
-  some_at [] i d e within is f = absurd (omega (arith, within))
-  some_at (x ∷ ts) zero d e within is f =
-      inl (subst (λ t. TypeFault m ks (tree_view t) e) is f)
-  some_at (x ∷ ts) (suc i) d e within is f = inr (some_at ts i d e (omega (arith, within)) is f)
+  pub some_at : (ts : List Tree) (i : ℕ) (d : Tree) (path : Path) (e : Refusal) → i < length ts → d ≡ get_or ts i d
+      → TypeFaultAt m ks (tree_view d) path e → SomeFaultAt m ks (trees_view ts) path e
+  some_at [] i d path e within is f = absurd (omega (arith, within))
+  some_at (x ∷ ts) zero d path e within is f =
+      inl (subst (λ t. TypeFaultAt m ks (tree_view t) path e) is f)
+  some_at (x ∷ ts) (suc i) d path e within is f = inr (some_at ts i d path e (omega (arith, within)) is f)
 
-  pub pair_at : (es : List TreeEntry) (i : ℕ) (d : TreeEntry) (e : Refusal) → i < length es
+  pub pair_at : (es : List TreeEntry) (i : ℕ) (d : TreeEntry) (path : Path) (e : Refusal) → i < length es
       → d ≡ get_or es i d
-      → TypeFault m ks (tree_view d.key) e ⊎ TypeFault m ks (tree_view d.value) e
-      → PairFault m ks (tree_entries_view es) e
-  pair_at [] i d e within is f = absurd (omega (arith, within))
-  pair_at (x ∷ es) zero d e within is (inl f) =
-      inl (subst (λ t. TypeFault m ks (tree_view t.key) e) is f)
-  pair_at (x ∷ es) zero d e within is (inr f) =
-      inr (inl (subst (λ t. TypeFault m ks (tree_view t.value) e) is f))
-  pair_at (x ∷ es) (suc i) d e within is f =
-      inr (inr (pair_at es i d e (omega (arith, within)) is f))
+      → TypeFaultAt m ks (tree_view d.key) path e ⊎ TypeFaultAt m ks (tree_view d.value) path e
+      → PairFaultAt m ks (tree_entries_view es) path e
+  pair_at [] i d path e within is f = absurd (omega (arith, within))
+  pair_at (x ∷ es) zero d path e within is (inl f) =
+      inl (subst (λ t. TypeFaultAt m ks (tree_view t.key) path e) is f)
+  pair_at (x ∷ es) zero d path e within is (inr f) =
+      inr (inl (subst (λ t. TypeFaultAt m ks (tree_view t.value) path e) is f))
+  pair_at (x ∷ es) (suc i) d path e within is f =
+      inr (inr (pair_at es i d path e (omega (arith, within)) is f))
 
   pub each_more : (ts : List Tree) (i : ℕ) (d : Tree) (before : List TypedTree)
       (es : List TypedExpr) (e : TypedExpr) → i < length ts → d ≡ get_or ts i d

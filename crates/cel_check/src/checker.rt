@@ -5,26 +5,31 @@ ghost use Rattle.cel_tree.specs.View.{checked_view};
 ghost use Rattle.cel_types.specs.Elaborated.{IsElaborated};
 ghost use Rattle.cel_types.specs.TypingFaults.{CheckFault};
 ghost use Rattle.cel_types.specs.View.{typed_view};
+ghost use Rattle.cel_tree.specs.Places.{PlacedOr};
+ghost use Rattle.cel_check.specs.Places.{CheckFaultAt};
+ghost use Rattle.proto_wire.specs.Places.{FaultOr};
 ghost use Rattle.proto_wire.specs.Refusal.{MemoryOr};
 
 mod calls;
+mod crowded;
 mod entries;
-mod faulty;
 mod kinds;
 mod literals;
 mod locals;
 mod loops;
 mod names;
+mod naming;
 mod nodes;
 mod scope;
 mod variables;
 
-use cel_tree::Checked;
+use cel_tree::{Checked, fault_of_node};
 use cel_types::Typed;
-pub use faulty::faulty_node;
-use locals::require_few_locals;
+use crowded::crowded_node;
+use locals::{MOST_LOCALS, require_few_locals};
+pub use naming::id_of;
 use nodes::check_tree;
-use proto_wire::Refusal;
+use proto_wire::{Fault, Refusal};
 use scope::Scope;
 use std::alloc::Global;
 
@@ -37,7 +42,19 @@ pub fn check<'a>(alloc: Global, checked: &'a Checked) -> Result<Typed<'a>, Refus
     ensures found { IfOk result (λ typed. IsElaborated (checked_view checked.now) (typed_view typed)) }
     ensures fault { IfErr result (MemoryOr (CheckFault (checked_view checked.now))) }
 {
-    require_few_locals(&checked.tree)?;
+    Ok(check_at(alloc, checked)?)
+}
+
+/// Finds the type of each node, as `check` does. The place of a fault names its node.
+pub fn check_at<'a>(alloc: Global, checked: &'a Checked) -> Result<Typed<'a>, Fault>
+    ensures found { IfOk result (λ typed. IsElaborated (checked_view checked.now) (typed_view typed)) }
+    ensures fault { IfErr result (FaultOr (CheckFault (checked_view checked.now))) }
+    ensures place { IfErr result (PlacedOr (CheckFaultAt (checked_view checked.now))) }
+{
+    if let Err(refusal) = require_few_locals(&checked.tree) {
+        let id = crowded_node(&checked.tree, MOST_LOCALS);
+        return Err(fault_of_node(refusal, id));
+    }
     let root = check_tree(alloc, checked, &Scope::Empty, &checked.tree)?;
     Ok(Typed { root })
 }

@@ -3,4 +3,4 @@
 
 mod checker;
 
-pub use checker::{check, faulty_node};
+pub use checker::{check, check_at, id_of};

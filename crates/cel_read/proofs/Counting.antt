@@ -4,8 +4,7 @@ use Rattle.proto_wire.specs.declared.refusal.Refusal.{Refusal}
 use Rattle.proto_wire.specs.declared.refusal.Refusal.TheVariants.{TooLarge}
 use Rattle.cel_tree.specs.Tree.{CelTree, CelTrees, no_trees, tree, CelTreeEntries}
 use Rattle.cel_tree.specs.Nodes.{Parts, EntryNode, Node, constant_node, ident_node, select_node, call_node, list_node, map_node, loop_node, children, IsNode}
-use Rattle.cel_tree.specs.Trees.{MadeEntries, Makes, AreTrees, IsTree, TreeFault, in_child, node_count, trees_count, entries_count, AllHave, HasNodes}
-use Rattle.cel_read.specs.steps.Inside.{TreeFails, SomeFails}
+use Rattle.cel_tree.specs.Trees.{MadeEntries, Makes, AreTrees, IsTree, TreeFault, NodesFault, in_child, node_count, trees_count, entries_count, AllHave, HasNodes}
 use Rattle.cel_read.proofs.Basics.{contains_first, contains_later}
 use Rattle.cel_read.proofs.ChildLaws.{child_stands}
 
@@ -84,6 +83,17 @@ nodes_there (suc depth) parts t is = inr (
 
 -- ---- one of the trees inside fails
 
+-- a tree has a fault, or more nodes than are left
+abbrev pub TreeFails : ℕ → ℕ → Parts → Refusal → Type 0
+TreeFails depth left parts e = TreeFault depth parts e ⊎ NodesFault depth left parts e
+
+-- the first of the trees that does not read has a fault, or more nodes than are left
+abbrev pub SomeFails : ℕ → ℕ → List Parts → Refusal → Type 0
+SomeFails depth left [] e = ⊥
+SomeFails depth left (child ∷ children) e = TreeFails depth left child e
+    ⊎ ((t : CelTree) × (rest : ℕ) × IsTree depth child t × (rest + node_count t ≡ left)
+    × SomeFails depth rest children e)
+
 module _ (depth : ℕ) where
   some_splits : (cs : List Parts) (left : ℕ) (e : Refusal) → SomeFails depth left cs e
       → ((child : Parts) × Contains cs child × TreeFault depth child e)
@@ -109,11 +119,3 @@ module _ (depth : ℕ) where
     | inl (child, here, fault) ↦ inl (in_child child (child_stands parts id node child is here) fault)
     | inr (n, has, more, at) ↦ inr (1 + n, inr (id, node, n, is, has, refl), omega (arith, sum, more), at)
   ]
-
-  -- trees of which the first read
-  pub fails_first : (cs ds : List Parts) (left : ℕ) (e : Refusal) → SomeFails depth left cs e
-      → SomeFails depth left (cs ++ ds) e
-  fails_first [] ds left e bad = absurd bad
-  fails_first (c ∷ cs) ds left e (inl bad) = inl bad
-  fails_first (c ∷ cs) ds left e (inr (t, rest, read, sum, later)) =
-      inr (t, rest, read, sum, fails_first cs ds rest e later)

@@ -5,22 +5,24 @@ use Rattle.std.specs.declared.boxed.Box.{Box}
 use Rattle.std.specs.declared.rc.RcStr.{RcStr}
 use Rattle.std.specs.declared.vec.Vec.{Vec}
 use Rattle.proto_wire.specs.Merge.{parts_view}
+use Rattle.proto_wire.specs.Places.{Path}
 use Rattle.proto_wire.specs.declared.refusal.Refusal.{Refusal}
 use Rattle.cel_value.specs.Texts.{text_view}
 use Rattle.cel_tree.specs.Tree.{CelTree, constant, ident, select, call, map_literal, comprehension, CelTrees, no_trees, tree, CelTreeEntries, no_tree_entries, tree_entry}
 use Rattle.cel_tree.specs.Nodes as nodes
-use Rattle.cel_tree.specs.Nodes.{Parts, Node, constant_node, ident_node, select_node, call_node, map_node, loop_node, children, entry_children, singles, IsNode, NodeFault}
-use Rattle.cel_tree.specs.Trees.{MadeEntries, AreTrees, IsTree, in_node, node_count, trees_count, entries_count}
+use Rattle.cel_tree.specs.Nodes.{Parts, Node, constant_node, ident_node, select_node, call_node, map_node, loop_node, children, entry_children, if_there, singles, IsNode}
+use Rattle.cel_tree.specs.Trees.{MadeEntries, AreTrees, IsTree, node_count, trees_count, entries_count}
 use Rattle.cel_tree.specs.View.{constant_view, tree_view, loop_of, target_of, LoopParts}
 use Rattle.cel_tree.specs.steps.TreeViews.{trees_view, tree_entries_view, loop_view, boxed_view}
 use Rattle.cel_read.specs.steps.EntryViews.{entry_nodes_view}
-use Rattle.cel_read.specs.steps.Inside.{TreeFails, SomeFails, Inside, IsTarget, target_nodes, EntryTrees, AreEntryTrees, AreLoopTrees, AreTwoTrees}
+use Rattle.cel_read.specs.Places.{NamesExpr, OwnFault, SomeFaultAt, TreeFaultAt}
+use Rattle.cel_read.specs.steps.Inside.{Inside, IsTarget, target_nodes, EntryTrees, AreEntryTrees, AreLoopTrees, AreTwoTrees}
 use Rattle.cel_read.specs.declared.literals.EntryNode.{EntryNode}
 use Rattle.cel_tree.specs.declared.tree.Constant as constants
 use Rattle.cel_tree.specs.declared.tree.TreeEntry.{TreeEntry}
 use Rattle.cel_tree.specs.declared.tree.Comprehension as loops
 use Rattle.cel_tree.specs.declared.tree.Tree.{Tree, Constant, Ident, Select, Call, Map, Comprehension, the_lemmas}
-use Rattle.cel_read.proofs.Counting.{node_fails, fails_first, made_count}
+use Rattle.cel_read.proofs.Counting.{made_count}
 
 -- ---- how trees are seen
 
@@ -127,9 +129,10 @@ module _ (depth : ℕ) (id : ℤ) (fits : SFits w64 id) where
 
 -- ---- one level, where one is left
 
-pub tree_own : (depth left : ℕ) (parts : Parts) (e : Refusal) → 0 < depth → NodeFault parts e → TreeFails depth left parts e
-tree_own zero left parts e more bad = absurd (omega arith)
-tree_own (suc depth) left parts e more bad = inl (in_node bad)
+pub own_at : (depth left : ℕ) (parts : Parts) (path : Path) (e : Refusal) → NamesExpr parts path
+    → OwnFault depth left parts e → TreeFaultAt depth left parts path e
+own_at zero left parts path e names bad = (names, bad)
+own_at (suc depth) left parts path e names bad = inl (names, bad)
 
 pub tree_found : (depth : ℕ) (parts : Parts) (id : ℤ) (node : Node) (t : CelTree) (rest mid left : ℕ) → 0 < depth
     → IsNode parts id node → mid + 1 ≡ left → Inside (depth - 1) id node t rest mid
@@ -142,41 +145,62 @@ tree_found (suc depth) parts id node t rest mid left more is sum inside =
     let rest_sum : rest + trees_count here.0 ≡ mid = here.3 in
     (record { id = id; node = node; is = is; inside = here.0; are = here.1; makes = here.2 }, omega (arith, count, rest_sum, sum))
 
-pub tree_fails : (depth : ℕ) (parts : Parts) (id : ℤ) (node : Node) (mid left : ℕ) (e : Refusal) → 0 < depth
-    → IsNode parts id node → mid + 1 ≡ left → SomeFails (depth - 1) mid (children node) e → TreeFails depth left parts e
-tree_fails zero parts id node mid left e more is sum bad = absurd (omega arith)
-tree_fails (suc depth) parts id node mid left e more is sum bad =
+pub inside_at : (depth : ℕ) (parts : Parts) (id : ℤ) (node : Node) (mid left : ℕ) (path : Path) (e : Refusal) → 0 < depth
+    → IsNode parts id node → mid + 1 ≡ left → SomeFaultAt (depth - 1) mid (children node) path e
+    → TreeFaultAt depth left parts path e
+inside_at zero parts id node mid left path e more is sum bad = absurd (omega arith)
+inside_at (suc depth) parts id node mid left path e more is sum bad =
     let less : suc depth - 1 ≡ depth = omega arith in
-    node_fails depth parts id node mid left e is sum (rw less at bad)
+    let below : SomeFaultAt depth mid (children node) path e = rw less at bad in
+    inr (id, node, mid, is, sum, below)
 
 -- ---- loops
 
 module _ (depth : ℕ) where
+  -- trees of which the first read
+  pub first_at : (cs ds : List Parts) (left : ℕ) (path : Path) (e : Refusal) → SomeFaultAt depth left cs path e
+      → SomeFaultAt depth left (cs ++ ds) path e
+  first_at [] ds left path e bad = absurd bad
+  first_at (c ∷ cs) ds left path e (inl bad) = inl bad
+  first_at (c ∷ cs) ds left path e (inr (t, rest, read, sum, later)) =
+      inr (t, rest, read, sum, first_at cs ds rest path e later)
+
   -- trees of which the first two read
-  pub fails_past_two : (a b : Parts) (cs : List Parts) (t u : CelTree) (rest left : ℕ) (e : Refusal)
-      → AreTwoTrees depth a b t u rest left → SomeFails depth rest cs e → SomeFails depth left (a ∷ b ∷ cs) e
-  fails_past_two a b cs t u rest left e both bad =
+  pub past_two : (a b : Parts) (cs : List Parts) (t u : CelTree) (rest left : ℕ) (path : Path) (e : Refusal)
+      → AreTwoTrees depth a b t u rest left → SomeFaultAt depth rest cs path e → SomeFaultAt depth left (a ∷ b ∷ cs) path e
+  past_two a b cs t u rest left path e both bad =
       let sum : rest + (node_count t + node_count u) ≡ left = both.count in
       inr (t, rest + node_count u, both.first, omega (arith, sum), inr (u, rest, both.second, refl, bad))
 
-  -- the tree at a place fails
-  pub trees_fail : (slices : List (Bor (List ℕ))) (i : ℕ) (d : Bor (List ℕ)) (ts : CelTrees) (rest left : ℕ) (e : Refusal)
-      → i < length slices → AreTrees (IsTree depth) (singles (parts_view (take i slices))) ts
-      → rest + trees_count ts ≡ left → TreeFails depth rest ((get_or slices i d).now ∷ []) e
-      → SomeFails depth left (singles (parts_view slices)) e
-  trees_fail [] i d ts rest left e within are sum bad = absurd (omega (arith, within))
-  trees_fail (s ∷ slices) zero d no_trees rest left e within are sum bad =
+  -- the target of a call reads
+  pub past_target : (on : Parts) (o : Option CelTree) (cs : List Parts) (rest left : ℕ) (path : Path) (e : Refusal)
+      → IsTarget depth on o → rest + target_nodes o ≡ left → SomeFaultAt depth rest cs path e
+      → SomeFaultAt depth left (if_there on ++ cs) path e
+  past_target [] None cs rest left path e at sum bad =
       let same : rest ≡ left = omega (arith, sum) in
-      let P : ℕ → Type 0 = λ n. TreeFails depth n (s.now ∷ []) e in
+      subst (λ n. SomeFaultAt depth n cs path e) same bad
+  past_target [] (Some t) cs rest left path e at sum bad = absurd at
+  past_target (p ∷ ps) None cs rest left path e at sum bad = absurd at
+  past_target (p ∷ ps) (Some t) cs rest left path e at sum bad = inr (t, rest, at, sum, bad)
+
+  -- the tree at a place fails
+  pub trees_at : (slices : List (Bor (List ℕ))) (i : ℕ) (d : Bor (List ℕ)) (ts : CelTrees) (rest left : ℕ) (path : Path)
+      (e : Refusal) → i < length slices → AreTrees (IsTree depth) (singles (parts_view (take i slices))) ts
+      → rest + trees_count ts ≡ left → TreeFaultAt depth rest ((get_or slices i d).now ∷ []) path e
+      → SomeFaultAt depth left (singles (parts_view slices)) path e
+  trees_at [] i d ts rest left path e within are sum bad = absurd (omega (arith, within))
+  trees_at (s ∷ slices) zero d no_trees rest left path e within are sum bad =
+      let same : rest ≡ left = omega (arith, sum) in
+      let P : ℕ → Type 0 = λ n. TreeFaultAt depth n (s.now ∷ []) path e in
       inl (subst P same bad)
-  trees_fail (s ∷ slices) zero d (tree t ts) rest left e within are sum bad = absurd are
-  trees_fail (s ∷ slices) (suc i) d no_trees rest left e within are sum bad = absurd are
-  trees_fail (s ∷ slices) (suc i) d (tree t ts) rest left e within are sum bad = inr (
+  trees_at (s ∷ slices) zero d (tree t ts) rest left path e within are sum bad = absurd are
+  trees_at (s ∷ slices) (suc i) d no_trees rest left path e within are sum bad = absurd are
+  trees_at (s ∷ slices) (suc i) d (tree t ts) rest left path e within are sum bad = inr (
     t,
     rest + trees_count ts,
     are.0,
     omega (arith, sum),
-    trees_fail slices i d ts rest (rest + trees_count ts) e (omega (arith, within)) are.1 refl bad,
+    trees_at slices i d ts rest (rest + trees_count ts) path e (omega (arith, within)) are.1 refl bad,
   )
 
   -- one tree more
@@ -189,20 +213,21 @@ module _ (depth : ℕ) where
   trees_push (r ∷ slices) (u ∷ ts) s t are is = (are.0, trees_push slices ts s t are.1 is)
 
   -- the key or the value of the entry at a place fails
-  pub entries_fail : (ns : List EntryNode) (i : ℕ) (d : EntryNode) (es : CelTreeEntries) (rest left : ℕ) (e : Refusal)
+  pub entries_at : (ns : List EntryNode) (i : ℕ) (d : EntryNode) (es : CelTreeEntries) (rest left : ℕ) (path : Path)
+      (e : Refusal)
       → i < length ns → EntryTrees depth (entry_nodes_view (take i ns)) es
       → rest + entries_count es ≡ left
-      → SomeFails depth rest (parts_view (get_or ns i d).key.items ∷ parts_view (get_or ns i d).value.items ∷ []) e
-      → SomeFails depth left (entry_children (entry_nodes_view ns)) e
-  entries_fail [] i d es rest left e within are sum bad = absurd (omega (arith, within))
-  entries_fail (n ∷ ns) zero d no_tree_entries rest left e within are sum bad =
+      → SomeFaultAt depth rest (parts_view (get_or ns i d).key.items ∷ parts_view (get_or ns i d).value.items ∷ []) path e
+      → SomeFaultAt depth left (entry_children (entry_nodes_view ns)) path e
+  entries_at [] i d es rest left path e within are sum bad = absurd (omega (arith, within))
+  entries_at (n ∷ ns) zero d no_tree_entries rest left path e within are sum bad =
       let same : rest ≡ left = omega (arith, sum) in
-      let P : ℕ → Type 0 = λ k. SomeFails depth k (entry_children (entry_nodes_view (n ∷ ns))) e in
-      subst P same (fails_first depth (parts_view n.key.items ∷ parts_view n.value.items ∷ [])
-      (entry_children (entry_nodes_view ns)) rest e bad)
-  entries_fail (n ∷ ns) zero d (tree_entry i k v es) rest left e within are sum bad = absurd are
-  entries_fail (n ∷ ns) (suc i) d no_tree_entries rest left e within are sum bad = absurd are
-  entries_fail (n ∷ ns) (suc i) d (tree_entry j k v es) rest left e within (same, key, value, others) sum bad = inr (
+      let P : ℕ → Type 0 = λ k. SomeFaultAt depth k (entry_children (entry_nodes_view (n ∷ ns))) path e in
+      subst P same (first_at (parts_view n.key.items ∷ parts_view n.value.items ∷ [])
+      (entry_children (entry_nodes_view ns)) rest path e bad)
+  entries_at (n ∷ ns) zero d (tree_entry i k v es) rest left path e within are sum bad = absurd are
+  entries_at (n ∷ ns) (suc i) d no_tree_entries rest left path e within are sum bad = absurd are
+  entries_at (n ∷ ns) (suc i) d (tree_entry j k v es) rest left path e within (same, key, value, others) sum bad = inr (
     k,
     rest + (node_count v + entries_count es),
     key,
@@ -212,7 +237,7 @@ module _ (depth : ℕ) where
       rest + entries_count es,
       value,
       omega arith,
-      entries_fail ns i d es rest (rest + entries_count es) e (omega (arith, within)) others refl bad,
+      entries_at ns i d es rest (rest + entries_count es) path e (omega (arith, within)) others refl bad,
     ),
   )
 

@@ -6,6 +6,7 @@ pub mod ChildLaws
 pub mod InnerLaws
 pub mod Counting
 pub mod Insides
+pub mod PlaceLaws
 pub mod TypeLevels
 pub mod NamedMaps
 pub mod ReadingLaws

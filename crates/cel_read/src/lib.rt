@@ -2,7 +2,6 @@
 #![tactic(auto)]
 
 mod constant;
-mod faulty;
 mod fields;
 pub mod laws;
 mod literals;
@@ -10,11 +9,13 @@ mod loops;
 mod maps;
 mod message;
 mod node;
+mod node_id;
 mod operands;
 mod read;
 mod reference;
 mod type_entry;
 mod type_node;
 
-pub use faulty::{FaultyPart, faulty_expr, faulty_part};
-pub use message::{read_checked, read_checked_parts, read_unchecked_parts};
+pub use message::{
+    read_checked, read_checked_at, read_checked_parts, read_unchecked_at, read_unchecked_parts,
+};

@@ -17,12 +17,10 @@ use crate::fields::run_payloads;
 use crate::literals::{EntryNode, read_list, read_struct};
 use crate::loops::{LoopNode, read_loop};
 use crate::operands::{read_call, read_ident, read_select};
-use cel_tree::{Constant, NodeKind};
+use cel_tree::{Constant, NODE_ID, NodeKind};
 use proto_wire::{Field, Key, Payloads, Refusal, int64_at, keys, last_number, read_message};
 use std::alloc::Global;
 use std::rc::RcStr;
-
-pub(crate) const ID: u32 = 2;
 
 const CONST_EXPR: u32 = 3;
 
@@ -39,7 +37,7 @@ const STRUCT_EXPR: u32 = 8;
 const COMPREHENSION_EXPR: u32 = 9;
 
 static EXPR: [Key; 8] = keys![
-    Varint ID, Len CONST_EXPR, Len IDENT_EXPR, Len SELECT_EXPR, Len CALL_EXPR, Len LIST_EXPR,
+    Varint NODE_ID, Len CONST_EXPR, Len IDENT_EXPR, Len SELECT_EXPR, Len CALL_EXPR, Len LIST_EXPR,
     Len STRUCT_EXPR, Len COMPREHENSION_EXPR
 ];
 
@@ -96,7 +94,7 @@ fn node_of<'a>(alloc: Global, fields: &[Field<'a>]) -> Result<(i64, Node<'a>), R
 {
     let last = last_kind(fields)?;
     let node = last_node(alloc, fields, last)?;
-    Ok((int64_at(fields, ID), node))
+    Ok((int64_at(fields, NODE_ID), node))
 }
 
 /// The node that the last member of an Expr's fields means.

@@ -1,24 +1,29 @@
 //! Reads trees, within limits of levels and nodes.
 
-ghost use Rattle.std.specs.Prelude.{◌≡◌, ◌+◌, ◌++◌, [], ◌∷◌, IfOk, IfErr, OnOk};
+ghost use Rattle.std.specs.Prelude.{◌≡◌, ◌<◌, ◌+◌, ◌++◌, [], ◌∷◌, IfOk, IfErr, OnOk};
 ghost use Rattle.proto_wire.specs.Merge.{parts_view};
+ghost use Rattle.proto_wire.specs.Places.{path_of};
 ghost use Rattle.proto_wire.specs.Refusal.{MemoryOr};
 ghost use Rattle.proto_wire.specs.declared.refusal.Refusal.TheVariants.{TooLarge};
 ghost use Rattle.cel_value.specs.Texts.{text_view};
-ghost use Rattle.cel_tree.specs.Nodes.{select_node, call_node, list_node, map_node, loop_node, children, entry_children, if_there, loop_children, singles};
+ghost use Rattle.cel_value.specs.Types.{IsInt64};
+ghost use Rattle.cel_tree.specs.Places.{PlacedOr};
+ghost use Rattle.cel_tree.specs.Nodes.{IsNode, select_node, call_node, list_node, map_node, loop_node, children, entry_children, if_there, loop_children, singles};
 ghost use Rattle.cel_tree.specs.Trees.{IsTree, AreTrees, node_count, trees_count};
 ghost use Rattle.cel_tree.specs.View.{tree_view};
 ghost use Rattle.cel_tree.specs.steps.TreeViews.{trees_view, tree_entries_view, loop_view, boxed_view};
+ghost use Rattle.cel_read.specs.Places.{OwnFault, SomeFaultAt, TreeFaultAt};
 ghost use Rattle.cel_read.specs.steps.EntryViews.{entry_nodes_view};
-ghost use Rattle.cel_read.specs.steps.Inside.{AreEntryTrees, AreLoopTrees, AreTwoTrees, Inside, IsLoopBody, IsTarget, SomeFails, TreeFails, loop_body, target_nodes};
+ghost use Rattle.cel_read.specs.steps.Inside.{AreEntryTrees, AreLoopTrees, AreTwoTrees, Inside, IsLoopBody, IsTarget, loop_body, target_nodes};
 ghost use Rattle.cel_read.specs.steps.NodeViews.{loop_node_view, node_view};
 
 use crate::fields::number_of;
 use crate::literals::EntryNode;
 use crate::loops::LoopNode;
 use crate::node::{Node, read_node};
+use crate::node_id::fault_of_expr;
 use cel_tree::{Comprehension, Tree, TreeEntry, both};
-use proto_wire::{Payloads, Refusal, require_level};
+use proto_wire::{Fault, Payloads, Refusal, require_level};
 use std::alloc::{AllocError, Global};
 use std::rc::RcStr;
 
@@ -30,15 +35,33 @@ pub(crate) fn read_tree(
     parts: &[&[u8]],
     depth: u32,
     left: &mut u32,
-) -> Result<Tree, Refusal>
+) -> Result<Tree, Fault>
     ensures found { IfOk result (λ t. IsTree depth (parts_view parts.now) (tree_view t)
         × (left.new + node_count (tree_view t) ≡ left.old)) }
-    ensures fault { IfErr result (MemoryOr (TreeFails depth left.old (parts_view parts.now))) }
+    ensures fault { IfErr result (PlacedOr (TreeFaultAt depth left.old (parts_view parts.now))) }
+{
+    match read_own(alloc, parts, depth, left) {
+        Ok((id, node)) => read_inside(alloc, id, node, depth - 1, left),
+        Err(refusal) => Err(fault_of_expr(alloc, parts, refusal)),
+    }
+}
+
+/// Reads an expression's own message, if one more node is within the limits.
+#[inline(always)]
+fn read_own<'a>(
+    alloc: Global,
+    parts: &[&'a [u8]],
+    depth: u32,
+    left: &mut u32,
+) -> Result<(i64, Node<'a>), Refusal>
+    ensures found { IfOk result (λ n. (0 < depth) × (left.new + 1 ≡ left.old)
+        × IsNode (parts_view parts.now) n.0 (node_view n.1)) }
+    ensures ranged { IfOk result (λ n. IsInt64 n.0) }
+    ensures fault { IfErr result (MemoryOr (OwnFault depth left.old (parts_view parts.now))) }
 {
     require_level(depth)?;
     take_node(left)?;
-    let (id, node) = read_node(alloc, parts)?;
-    read_inside(alloc, id, node, depth - 1, left)
+    read_node(alloc, parts)
 }
 
 /// Reads the trees inside a node; each may have `depth` levels.
@@ -49,9 +72,9 @@ fn read_inside(
     node: Node<'_>,
     depth: u32,
     left: &mut u32,
-) -> Result<Tree, Refusal>
+) -> Result<Tree, Fault>
     ensures found { IfOk result (λ t. Inside depth id (node_view node.entry) (tree_view t) left.new left.old) }
-    ensures fault { IfErr result (MemoryOr (SomeFails depth left.old (children (node_view node.entry)))) }
+    ensures fault { IfErr result (PlacedOr (SomeFaultAt depth left.old (children (node_view node.entry)))) }
 {
     match node {
         Node::Constant(value) => Ok(Tree::Constant { id, value }),
@@ -83,10 +106,10 @@ fn select_tree(
     test_only: bool,
     depth: u32,
     left: &mut u32,
-) -> Result<Tree, Refusal>
+) -> Result<Tree, Fault>
     ensures found { IfOk result (λ t.
         Inside depth id (select_node (parts_view operand.now.items) (text_view field) test_only) (tree_view t) left.new left.old) }
-    ensures fault { IfErr result (MemoryOr (SomeFails depth left.old (parts_view operand.now.items ∷ []))) }
+    ensures fault { IfErr result (PlacedOr (SomeFaultAt depth left.old (parts_view operand.now.items ∷ []))) }
 {
     let operand = read_tree(alloc, operand, depth, left)?;
     let operand = Box::new(alloc, operand)?;
@@ -109,11 +132,11 @@ fn call_tree(
     args: &Payloads<'_>,
     depth: u32,
     left: &mut u32,
-) -> Result<Tree, Refusal>
+) -> Result<Tree, Fault>
     ensures found { IfOk result (λ t.
         Inside depth id (call_node (text_view function) (parts_view target.now.items) (parts_view args.now.items)) (tree_view t) left.new left.old) }
-    ensures fault { IfErr result (MemoryOr
-        (SomeFails depth left.old (if_there (parts_view target.now.items) ++ singles (parts_view args.now.items)))) }
+    ensures fault { IfErr result (PlacedOr
+        (SomeFaultAt depth left.old (if_there (parts_view target.now.items) ++ singles (parts_view args.now.items)))) }
 {
     let target = read_target(alloc, target, depth, left)?;
     let args = read_trees(alloc, args, depth, left)?;
@@ -134,9 +157,9 @@ fn list_tree(
     elements: &Payloads<'_>,
     depth: u32,
     left: &mut u32,
-) -> Result<Tree, Refusal>
+) -> Result<Tree, Fault>
     ensures found { IfOk result (λ t. Inside depth id (list_node (parts_view elements.now.items)) (tree_view t) left.new left.old) }
-    ensures fault { IfErr result (MemoryOr (SomeFails depth left.old (singles (parts_view elements.now.items)))) }
+    ensures fault { IfErr result (PlacedOr (SomeFaultAt depth left.old (singles (parts_view elements.now.items)))) }
 {
     let elements = read_trees(alloc, elements, depth, left)?;
     Ok(Tree::List { id, elements })
@@ -151,9 +174,9 @@ fn map_tree(
     nodes: &[EntryNode<'_>],
     depth: u32,
     left: &mut u32,
-) -> Result<Tree, Refusal>
+) -> Result<Tree, Fault>
     ensures found { IfOk result (λ t. Inside depth id (map_node (entry_nodes_view nodes.now)) (tree_view t) left.new left.old) }
-    ensures fault { IfErr result (MemoryOr (SomeFails depth left.old (entry_children (entry_nodes_view nodes.now)))) }
+    ensures fault { IfErr result (PlacedOr (SomeFaultAt depth left.old (entry_children (entry_nodes_view nodes.now)))) }
 {
     let entries = read_entry_trees(alloc, nodes, depth, left)?;
     Ok(Tree::Map { id, entries })
@@ -168,9 +191,9 @@ fn loop_tree(
     node: LoopNode<'_>,
     depth: u32,
     left: &mut u32,
-) -> Result<Tree, Refusal>
+) -> Result<Tree, Fault>
     ensures found { IfOk result (λ t. Inside depth id (loop_node (loop_node_view node.entry)) (tree_view t) left.new left.old) }
-    ensures fault { IfErr result (MemoryOr (SomeFails depth left.old (loop_children (loop_node_view node.entry)))) }
+    ensures fault { IfErr result (PlacedOr (SomeFaultAt depth left.old (loop_children (loop_node_view node.entry)))) }
 {
     lent_loop_tree(alloc, id, &node, depth, left)
 }
@@ -184,9 +207,9 @@ fn lent_loop_tree(
     node: &LoopNode<'_>,
     depth: u32,
     left: &mut u32,
-) -> Result<Tree, Refusal>
+) -> Result<Tree, Fault>
     ensures found { IfOk result (λ t. Inside depth id (loop_node (loop_node_view node.now)) (tree_view t) left.new left.old) }
-    ensures fault { IfErr result (MemoryOr (SomeFails depth left.old (loop_children (loop_node_view node.now)))) }
+    ensures fault { IfErr result (PlacedOr (SomeFaultAt depth left.old (loop_children (loop_node_view node.now)))) }
 {
     let parts = read_loop_trees(alloc, node, depth, left)?;
     let parts = Box::new(alloc, parts)?;
@@ -200,10 +223,10 @@ fn read_target(
     parts: &[&[u8]],
     depth: u32,
     left: &mut u32,
-) -> Result<Option<Box<Tree>>, Refusal>
+) -> Result<Option<Box<Tree>>, Fault>
     ensures found { IfOk result (λ t. IsTarget depth (parts_view parts.now) (boxed_view t)
         × (left.new + target_nodes (boxed_view t) ≡ left.old)) }
-    ensures fault { IfErr result (MemoryOr (SomeFails depth left.old (if_there (parts_view parts.now)))) }
+    ensures fault { IfErr result (PlacedOr (SomeFaultAt depth left.old (if_there (parts_view parts.now)))) }
 {
     if parts.is_empty() {
         return Ok(None);
@@ -219,10 +242,10 @@ fn read_trees(
     payloads: &[&[u8]],
     depth: u32,
     left: &mut u32,
-) -> Result<Vec<Tree>, Refusal>
+) -> Result<Vec<Tree>, Fault>
     ensures found { IfOk result (λ v. AreTrees (IsTree depth) (singles (parts_view payloads.now)) (trees_view v.items)
         × (left.new + trees_count (trees_view v.items) ≡ left.old)) }
-    ensures fault { IfErr result (MemoryOr (SomeFails depth left.old (singles (parts_view payloads.now)))) }
+    ensures fault { IfErr result (PlacedOr (SomeFaultAt depth left.old (singles (parts_view payloads.now)))) }
 {
     let mut trees = no_trees(alloc, payloads.len(), *left)?;
     for payload in payloads {
@@ -250,10 +273,10 @@ fn read_entry_trees(
     nodes: &[EntryNode<'_>],
     depth: u32,
     left: &mut u32,
-) -> Result<Vec<TreeEntry>, Refusal>
+) -> Result<Vec<TreeEntry>, Fault>
     ensures found { IfOk result (λ v.
         AreEntryTrees depth (entry_nodes_view nodes.now) (tree_entries_view v.items) left.new left.old) }
-    ensures fault { IfErr result (MemoryOr (SomeFails depth left.old (entry_children (entry_nodes_view nodes.now)))) }
+    ensures fault { IfErr result (PlacedOr (SomeFaultAt depth left.old (entry_children (entry_nodes_view nodes.now)))) }
 {
     let mut entries = Vec::new(alloc);
     for node in nodes {
@@ -274,9 +297,9 @@ fn read_loop_trees(
     node: &LoopNode<'_>,
     depth: u32,
     left: &mut u32,
-) -> Result<Comprehension, Refusal>
+) -> Result<Comprehension, Fault>
     ensures found { IfOk result (λ c. AreLoopTrees depth (loop_node_view node.now) (loop_view c) left.new left.old) }
-    ensures fault { IfErr result (MemoryOr (SomeFails depth left.old (loop_children (loop_node_view node.now)))) }
+    ensures fault { IfErr result (PlacedOr (SomeFaultAt depth left.old (loop_children (loop_node_view node.now)))) }
 {
     let (iter_var, iter_var2, accu_var) = names_of(node)?;
     let start = read_two(alloc, &node.iter_range, &node.accu_init, depth, left)?;
@@ -303,10 +326,10 @@ fn read_loop_body(
     node: &LoopNode<'_>,
     depth: u32,
     left: &mut u32,
-) -> Result<((Tree, Tree), Tree), Refusal>
+) -> Result<((Tree, Tree), Tree), Fault>
     ensures found { IfOk result (λ trees. IsLoopBody depth (loop_node_view node.now)
         (tree_view trees.0.0) (tree_view trees.0.1) (tree_view trees.1) left.new left.old) }
-    ensures fault { IfErr result (MemoryOr (SomeFails depth left.old (loop_body (loop_node_view node.now)))) }
+    ensures fault { IfErr result (PlacedOr (SomeFaultAt depth left.old (loop_body (loop_node_view node.now)))) }
 {
     let two = read_two(alloc, &node.loop_condition, &node.loop_step, depth, left)?;
     both(two, read_tree(alloc, &node.result, depth, left))
@@ -321,11 +344,11 @@ fn read_two(
     second: &[&[u8]],
     depth: u32,
     left: &mut u32,
-) -> Result<(Tree, Tree), Refusal>
+) -> Result<(Tree, Tree), Fault>
     ensures found { IfOk result (λ trees. AreTwoTrees depth (parts_view first.now) (parts_view second.now)
         (tree_view trees.0) (tree_view trees.1) left.new left.old) }
-    ensures fault { IfErr result (MemoryOr
-        (SomeFails depth left.old (parts_view first.now ∷ parts_view second.now ∷ []))) }
+    ensures fault { IfErr result (PlacedOr
+        (SomeFaultAt depth left.old (parts_view first.now ∷ parts_view second.now ∷ []))) }
 {
     let first = read_tree(alloc, first, depth, left)?;
     both(first, read_tree(alloc, second, depth, left))

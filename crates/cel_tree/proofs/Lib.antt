@@ -1,4 +1,5 @@
 pub mod Readers
 pub mod PairFacts
+pub mod PlacedExits
 pub mod IdPlaces
 pub mod IdMaps

@@ -10,4 +10,5 @@ pub mod Trees
 pub mod Message
 pub mod GoodConstants
 pub mod Ids
+pub mod Places
 pub mod steps

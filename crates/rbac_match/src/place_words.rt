@@ -3,14 +3,15 @@
 use crate::authenticated::PRINCIPAL_NAME;
 use crate::cidr::{ADDRESS_PREFIX, PREFIX_LEN};
 use crate::fields::trailing_run;
-use crate::keys::{AND, ANY, NOT, OR, RULES, permission, principal};
+use crate::keys::{AND, ANY, NOT, OR, RULES, permission, principal, rule_keys};
 use crate::list::RuleList;
 use crate::path::PATH;
 use crate::read::{RULE_DEPTH, read_rule_at};
 use crate::rule::Side;
 use crate::{header, text};
 use proto_wire::{
-    Fault, MOST_STEPS, Payloads, Place, Refusal, Step, len_of, payloads_of, read_parts,
+    Fault, MOST_STEPS, Payloads, Place, Refusal, Step, len_of, payloads_of, read_message,
+    read_parts,
 };
 use std::alloc::Global;
 
@@ -46,6 +47,7 @@ pub fn path_in_rule(alloc: Global, side: Side, rule: &[u8], refusal: Refusal) ->
         depth: RULE_DEPTH,
     };
     for _ in 0..RULE_DEPTH {
+        inner = past_nots(alloc, side, inner, &mut path)?;
         let fault = fault_of_rule(alloc, side, &inner)?;
         if fault.refusal != refusal {
             return None;
@@ -78,6 +80,39 @@ fn one_payload<'a>(alloc: Global, payload: &'a [u8]) -> Option<Payloads<'a>> {
     let mut parts = Payloads::new(alloc);
     parts.push(payload).ok()?;
     Some(parts)
+}
+
+/// The rule to which `not` alone leads from this one; adds these steps to the path. Such rules need no second reading:
+/// what is wrong is inside them.
+fn past_nots<'a>(
+    alloc: Global,
+    side: Side,
+    rule: Inner<'a>,
+    path: &mut String,
+) -> Option<Inner<'a>> {
+    let mut inner = rule;
+    for _ in 0..RULE_DEPTH {
+        let Some(parts) = negated(alloc, side, &inner.parts) else {
+            return Some(inner);
+        };
+        if inner.depth == 0 {
+            return Some(inner);
+        }
+        inner.parts = parts;
+        inner.depth -= 1;
+        add_field(alloc, Message::Rule(side), NOT, path)?;
+    }
+    Some(inner)
+}
+
+/// The payloads of the rule that a rule negates, if its own message has no fault.
+fn negated<'a>(alloc: Global, side: Side, parts: &[&'a [u8]]) -> Option<Payloads<'a>> {
+    let fields = read_message(alloc, parts, rule_keys(side)).ok()?;
+    let run = trailing_run(&fields);
+    match run.first() {
+        Some(field) if field.number == NOT => payloads_of(alloc, run, NOT).ok(),
+        _ => None,
+    }
 }
 
 fn fault_of_rule(alloc: Global, side: Side, rule: &Inner<'_>) -> Option<Fault> {

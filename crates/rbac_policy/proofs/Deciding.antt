@@ -12,7 +12,7 @@ use Rattle.cel_tree.specs.GoodConstants.{HasGoodConstants}
 use Rattle.cel_read.proofs.GoodConstantLaws.{expr_good}
 use Rattle.proto_wire.proofs.MapOrder.{above_all, both_first, both_second, found_later}
 use Rattle.rbac_match.specs.Formula.{Formulas, some_hold}
-use Rattle.stack_machine.specs.Machine.{RunsOut}
+use Rattle.machine_code.specs.Machine.{RunsOut}
 use Rattle.rbac_match.specs.Tokens.{Token}
 use Rattle.rbac_policy.specs.Admission.{IsAdmittedAs}
 use Rattle.rbac_policy.specs.Condition.{IsProgramOf, Program, TakesTooLong, is_met}

@@ -1,28 +1,34 @@
 -- The fault of a part is one of the filter that has the part, and what a `?` passes on of its place.
-use Rattle.std.proofs.Common.{◌≡◌, ◌≢◌, ◌<◌, ◌⊎◌, arith, ℕ, zero, suc, List, [], ◌∷◌, Some, None, take, map, Result, Ok, Err, IfErr, inl, inr, refl, sym, ap, subst, length, get_or, ◌∙◌}
+use Rattle.std.proofs.Common.{◌≡◌, ◌≢◌, ◌<◌, ◌⊎◌, arith, ℕ, zero, suc, List, [], ◌∷◌, ◌++◌, append_assoc, append-nil, Some, None, take, map, Result, Ok, Err, IfErr, inl, inr, refl, sym, ap, subst, length, get_or, ◌∙◌}
 use Rattle.std.specs.FinMap.{entries, entries_sorted, find}
-use Rattle.std.specs.Prelude.{IsErrAnd, slice_get}
+use Rattle.std.specs.Prelude.{IfOk, IsErrAnd, MatchResult, slice_get}
 use Rattle.std.specs.Cmp.Lexicographic.{nat_list_cmp_total}
 use Rattle.std.proofs.lemmas.List.{map-id}
 use Rattle.std.proofs.lemmas.Option.{get_or_from_slice_get, slice_get_cases}
 use Rattle.std.proofs.lemmas.Result.{err_from_is_err_and}
 use Rattle.attributes.specs.Headers.{name_cmp}
-use Rattle.attributes.specs.Limits.{LimitsValue}
-use Rattle.cel_tree.specs.Message.{ArePresent}
+use Rattle.cel_tree.specs.Checked.{CelChecked}
+use Rattle.cel_tree.specs.Message.{ArePresent, ExprParts, IsExprOf}
+use Rattle.cel_tree.specs.Places.{PlacedOr as Placed_or}
+use Rattle.cel_read.specs.Places.{ExprFaultAt}
+use Rattle.cel_read.proofs.PlaceLaws.{expr_fails}
+use Rattle.cel_check.specs.Places.{CheckFaultAt}
+use Rattle.cel_check.proofs.PlaceLaws.{check_fails}
 use Rattle.proto_wire.specs.Fields.{Wire}
 use Rattle.proto_wire.specs.Maps.{Entry, text, Readable, map_of, in_value}
 use Rattle.proto_wire.specs.Merge.{Merges}
 use Rattle.proto_wire.specs.Messages.{MessageFault}
-use Rattle.proto_wire.specs.Places.{Path, IsAt as IsOf, IsInside, FaultOr, MessagePlace, path_at, path_of}
+use Rattle.proto_wire.specs.Places.{Path, End, IsAt as IsOf, IsInside, FaultOr, MessagePlace, path_at, path_of}
 use Rattle.proto_wire.specs.Refusal.{MemoryOr}
 use Rattle.proto_wire.specs.Values.{payloads}
 use Rattle.proto_wire.specs.declared.key.Key.{Key}
 use Rattle.proto_wire.specs.declared.place.Step.{Step}
 use Rattle.proto_wire.specs.declared.placed.Fault.{Fault}
 use Rattle.proto_wire.specs.declared.refusal.Refusal.{Refusal}
-use Rattle.proto_wire.specs.declared.refusal.Refusal.TheVariants.{Memory, TooCostly}
+use Rattle.proto_wire.specs.declared.refusal.Refusal.TheVariants.{Memory}
 use Rattle.proto_wire.proofs.MapOrder.{find_at}
 use Rattle.proto_wire.proofs.Messages.{no_steps}
+use Rattle.proto_wire.proofs.Exits.{memory_or_weaker}
 use Rattle.proto_wire.proofs.PlaceExits.{Placed}
 use Rattle.proto_wire.proofs.Places.{has_fault as fault_of_whole, shorter as fault_of_outer, further_out}
 use Rattle.rbac_match.specs.Places as rules_of
@@ -34,9 +40,7 @@ use Rattle.rbac_match.proofs.Places.{at_in}
 use Rattle.rbac_policy.specs.Fault.{PolicyFault, RulesFault, in_permission, in_principal, in_policies, in_rules, rules_fields, unreadable, untyped, not_bool}
 use Rattle.rbac_policy.specs.Keys.{filter_field, rules_field}
 use Rattle.rbac_policy.specs.Message.{condition_in, rule_depth}
-use Rattle.rbac_policy.specs.Places.{Part, of_filter, of_rules, of_policy, of_condition, in_rule, ConditionWrong, does_not_read, has_no_type, of_another_type, PartFault, side_field, condition_field, StepTo, FaultAt, OfNoPart, PlacedOr, ConditionOr, EntryOr, PoliciesOr, FieldsOr}
-use Rattle.rbac_policy.specs.steps.Conditions as step
-use Rattle.rbac_policy.specs.steps.Conditions.{ConditionFault}
+use Rattle.rbac_policy.specs.Places.{Part, of_filter, of_rules, of_policy, of_condition, in_condition, in_rule, ConditionWrong, ConditionWrongAt, unreadable_at, wrong_at, NodeWrongAt, untyped_at, not_bool_at, IsOfExpr, does_not_read, has_no_type, of_another_type, PartFault, side_field, condition_field, StepTo, FaultAt, OfNoPart, PlacedOr, NodeOr, ConditionPartOr, ConditionOr, EntryOr, PoliciesOr, FieldsOr}
 use Rattle.rbac_policy.proofs.Besides.{name_same}
 
 -- ---- outer parts
@@ -58,6 +62,14 @@ from_condition parts fs e merges there (has_no_type x reads bad) =
     untyped x (record { fs = fs; merges = merges; reads = reads }) bad
 from_condition parts fs e merges there (of_another_type x t reads typed other is) =
     not_bool x t (record { fs = fs; merges = merges; reads = reads }) typed other is
+
+-- a condition with a fault at a path has it
+condition_fails : (parts : ExprParts) (path : Path) (e : Refusal) → ConditionWrongAt parts path e → ConditionWrong parts e
+condition_fails parts path e (unreadable_at bad) = does_not_read (expr_fails parts path e bad)
+condition_fails parts path e (wrong_at x inner reads (untyped_at bad) of_expr) =
+    has_no_type x reads (check_fails x inner e bad)
+condition_fails parts path e (wrong_at x inner reads (not_bool_at t typed other is names) of_expr) =
+    of_another_type x t reads typed other is
 
 -- what stands in a map at a position is found by its name
 found_at : (read : List (Entry text)) (i : ℕ) (entry : Entry text)
@@ -93,7 +105,16 @@ climb (of_policy parts) q s e (fs, merges, inl to) bad =
     from_rule parts fs to.side to.child s.position e merges to.at (rw (to.is) at bad)
 climb (of_policy parts) q s e (fs, merges, inr to) bad =
     from_condition parts fs e merges to.there (rw (to.is) at bad)
-climb (of_condition parts) q s e to bad = absurd to
+climb (of_condition parts) q s e to bad =
+    let own : PartFault (in_condition parts (s ∷ [])) e = rw to at bad in
+    condition_fails parts (record { steps = (s ∷ []) ++ own.0; end = own.1 }) e own.2
+climb (in_condition parts steps) q s e to bad =
+    let own : PartFault (in_condition parts (steps ++ s ∷ [])) e = rw to at bad in
+    let same : (steps ++ s ∷ []) ++ own.0 ≡ steps ++ s ∷ own.0 = append_assoc steps (s ∷ []) own.0 in (
+      s ∷ own.0,
+      own.1,
+      subst (λ all. ConditionWrongAt parts (record { steps = all; end = own.1 }) e) same own.2,
+    )
 climb (in_rule side p) q s e to bad = rule_places.climb side p to.0 s e to.1 (rw (to.2) at bad)
 
 pub has_fault : (steps : List Step) (p : Part) (e : Refusal) → FaultAt steps p e → PartFault p e
@@ -107,6 +128,25 @@ lifted : (side : Side) (steps : List Step) (p : rules_of.Part) (e : Refusal) →
     → FaultAt steps (in_rule side p) e
 lifted side [] p e bad = bad
 lifted side (s ∷ steps) p e bad = (in_rule side bad.0, (bad.0, bad.1, refl), lifted side steps bad.0 e bad.2)
+
+-- the steps in a condition lead to what has the fault
+further_in : (parts : ExprParts) (before after : List Step) (end : End) (e : Refusal)
+    → ConditionWrongAt parts (record { steps = before ++ after; end = end }) e
+    → FaultAt after (in_condition parts before) e
+further_in parts before [] end e bad = ([], end, bad)
+further_in parts before (s ∷ after) end e bad = (
+  in_condition parts (before ++ s ∷ []),
+  refl,
+  further_in parts (before ++ s ∷ []) after end e
+      (subst (λ all. ConditionWrongAt parts (record { steps = all; end = end }) e)
+      (sym (append_assoc before (s ∷ []) after)) bad),
+)
+
+-- from the condition on
+from_its_parts : (parts : ExprParts) (steps : List Step) (end : End) (e : Refusal)
+    → ConditionWrongAt parts (record { steps = steps; end = end }) e → FaultAt steps (of_condition parts) e
+from_its_parts parts [] end e bad = condition_fails parts (record { steps = []; end = end }) e bad
+from_its_parts parts (s ∷ steps) end e bad = (in_condition parts (s ∷ []), refl, further_in parts (s ∷ []) steps end e bad)
 
 -- ---- exits
 
@@ -159,10 +199,11 @@ from_side side parts fs f merges (inr (i, child, inner, at, begins, bad)) =
 pub from_conditions : (parts : List (List ℕ)) (fs : List Wire) (f : Fault) → Merges parts fs → ConditionOr fs f
     → PlacedOr (of_policy parts) f
 from_conditions parts fs f merges (inl no_part) = inl no_part
-from_conditions parts fs f merges (inr (there, wrong, begins)) =
-    inr (further_out Part StepTo PartFault climb (condition_field (condition_in fs)) 0 (path_at 0) (path_of f.place)
+from_conditions parts fs f merges (inr (there, inner, wrong, begins)) =
+    inr (further_out Part StepTo PartFault climb (condition_field (condition_in fs)) 0 inner (path_of f.place)
     (of_policy parts) (of_condition (condition_in fs)) f.refusal begins
-    (fs, merges, inr (record { there = there; number = refl; position = refl; is = refl })) wrong)
+    (fs, merges, inr (record { there = there; number = refl; position = refl; is = refl }))
+    (from_its_parts (condition_in fs) inner.steps inner.end f.refusal wrong))
 
 -- a policy's fault, as one of its entry
 pub entry_out : (i : ℕ) (entry : Entry text) {T : Type 0} (r s : Result T Fault)
@@ -220,25 +261,61 @@ at_map g [] i d within = absurd (omega (arith, within))
 at_map g (x ∷ xs) zero d within = refl
 at_map g (x ∷ xs) (suc i) d within = at_map g xs i d (omega (arith, within))
 
--- the fault of a condition, or what it costs
-pub unfit : (limits : LimitsValue) (left : ℕ) (fs : List Wire) (e : Refusal)
-    → MemoryOr (λ d. ArePresent (condition_in fs) × ConditionFault (condition_in fs) limits left d) e
-    → MemoryOr (λ d. ArePresent (condition_in fs) × (ConditionWrong (condition_in fs) d ⊎ (d ≡ TooCostly))) e
-unfit limits left fs e (inl memory) = inl memory
-unfit limits left fs e (inr (there, step.unreadable bad)) = inr (there, inl (does_not_read bad))
-unfit limits left fs e (inr (there, step.expression x reads (step.untyped bad))) = inr (there, inl (has_no_type x reads bad))
-unfit limits left fs e (inr (there, step.expression x reads (step.not_bool t typed other is))) =
-    inr (there, inl (of_another_type x t reads typed other is))
-unfit limits left fs e (inr (there, step.expression x reads (step.too_costly cost costs above is))) = inr (there, inr is)
-
 -- a fault of a condition that was placed inside its field
-pub condition_out : (fs : List Wire) (n : ℕ) (e : Refusal) (inner outer : Fault)
-    → MemoryOr (λ d. ArePresent (condition_in fs) × (ConditionWrong (condition_in fs) d ⊎ (d ≡ TooCostly))) e
-    → n ≡ condition_field (condition_in fs) → IsOf 0 e inner → IsInside n 0 inner outer → ConditionOr fs outer
-condition_out fs n e inner outer (inl memory) number at inside = inl (inl (inside.0 ∙ at.0 ∙ memory))
-condition_out fs n e inner outer (inr (there, inr cost)) number at inside = inl (inr (inside.0 ∙ at.0 ∙ cost))
-condition_out fs n e inner outer (inr (there, inl bad)) number at inside =
-    inr (there, rw (inside.0, at.0) bad, rw (number, at.1) at inside.1)
+pub condition_out : (fs : List Wire) (n : ℕ) (inner outer : Fault) → ConditionPartOr (condition_in fs) inner
+    → n ≡ condition_field (condition_in fs) → IsInside n 0 inner outer → ConditionOr fs outer
+condition_out fs n inner outer (inl no_part) number inside = inl (rw (inside.0) no_part)
+condition_out fs n inner outer (inr (there, wrong)) number inside =
+    inr (there, path_of inner.place, rw (inside.0) wrong, rw number at inside.1)
+
+-- the fault of an expression that has no type
+pub untyped_node : (x : CelChecked) (f : Fault) → Placed_or (CheckFaultAt x) f → NodeOr x f
+untyped_node x f (inl memory) = inl (inl memory)
+untyped_node x f (inr bad) = inr (untyped_at bad)
+
+-- at a `?` on a callee without a place, whose refusal is of no part
+pub exit_no_part : (x : CelChecked) {T : Type 0} (r : Result T Fault) (e : Refusal) → IsErrAnd r (IsOf 0 e) → OfNoPart e
+    → IfErr r (NodeOr x)
+exit_no_part x r e left no_part =
+    let l = err_from_is_err_and r left in
+    rw (l.1) (inl (rw (l.2.0) no_part))
+
+-- at a `?` on what reads a condition's expression
+pub expr_exit : (parts : ExprParts) {T : Type 0} (r : Result T Fault) (e : Fault) → IsErrAnd r (λ y. y ≡ e)
+    → ArePresent parts → Placed_or (ExprFaultAt parts) e → IfErr r (ConditionPartOr parts)
+expr_exit parts r e left there fault =
+    let l = err_from_is_err_and r left in
+    rw (l.1, l.2) (elim fault [
+      | inl memory ↦ inl (inl memory)
+      | inr bad ↦ inr (there, unreadable_at bad)
+    ])
+
+-- s is r, whose fault is one of the condition
+abbrev pub OfExpr : {T : Type 0} → ExprParts → Result T Fault → Result T Fault → Type 0
+OfExpr parts r s = MatchResult r (λ x. s ≡ Ok x)
+    (λ e. IsErrAnd s (λ f. (f.refusal ≡ e.refusal) × IsOfExpr parts (path_of e.place) (path_of f.place)))
+
+pub node_out : (parts : ExprParts) (x : CelChecked) {T : Type 0} (r s : Result T Fault) → OfExpr parts r s
+    → ArePresent parts → IsExprOf parts x → IfErr r (NodeOr x) → IfErr s (ConditionPartOr parts)
+node_out parts x (Ok y) s is there reads fault = rw is tt
+node_out parts x (Err e) s is there reads fault =
+    let l = err_from_is_err_and s is in
+    rw (l.1) (elim fault [
+      | inl no_part ↦ inl (rw (l.2.0) no_part)
+      | inr bad ↦ inr (there, rw (l.2.0) (wrong_at x (path_of e.place) reads bad l.2.1))
+    ])
+
+pub of_expr_found : {T : Type 0} (parts : ExprParts) (P : T → Type 0) (r s : Result T Fault) → OfExpr parts r s
+    → IfOk r P → IfOk s P
+of_expr_found parts P (Ok x) s is found = rw is found
+of_expr_found parts P (Err e) s is found = rw ((err_from_is_err_and s is).1) tt
+
+pub of_expr_fault : {T : Type 0} (parts : ExprParts) (F G : Refusal → Type 0) (r s : Result T Fault) → OfExpr parts r s
+    → IfErr r (FaultOr F) → ((d : Refusal) → F d → G d) → IfErr s (FaultOr G)
+of_expr_fault parts F G (Ok x) s is fault weaker = rw is tt
+of_expr_fault parts F G (Err e) s is fault weaker =
+    let l = err_from_is_err_and s is in
+    rw (l.1, l.2.0) (memory_or_weaker F G e.refusal weaker fault)
 
 -- a fault of the fields of the rules that is of no policy
 pub fields_at : (fs : List Wire) (n : ℕ) (e : Refusal) {T : Type 0} (r : Result T Fault) (f : Fault)

@@ -20,9 +20,9 @@ use Rattle.cel_costs.specs.Costs.{cost_of}
 use Rattle.cel_compile.specs.Codes.{code_of}
 use Rattle.cel_compile.specs.Sound.{RunsToMeaning}
 use Rattle.cel_compile.proofs.Meaning.{code_means}
-use Rattle.stack_machine.specs.Instructions.{Instruction}
-use Rattle.stack_machine.specs.Machine.{Ends, RunsOut}
-use Rattle.stack_machine.proofs.Chains.{never_both_lem, one_end_lem}
+use Rattle.machine_code.specs.Instructions.{Instruction}
+use Rattle.machine_code.specs.Machine.{Ends, RunsOut}
+use Rattle.machine_code.proofs.Chains.{never_both_lem, one_end_lem}
 use Rattle.rbac_policy.specs.Condition.{IsProgramOf, Program, came_true, is_met}
 use Rattle.rbac_policy.specs.Costs.{Costs}
 use Rattle.rbac_policy.specs.steps.Runs.{RunsAs}

@@ -14,7 +14,7 @@ use Rattle.cel_tree.specs.Checked.{CelChecked}
 use Rattle.cel_tree.specs.GoodConstants.{HasGoodConstants}
 use Rattle.proto_wire.proofs.MapOrder.{entries_from_entries}
 use Rattle.rbac_match.specs.Formula.{some_hold}
-use Rattle.stack_machine.proofs.Chains.{one_end_lem}
+use Rattle.machine_code.proofs.Chains.{one_end_lem}
 use Rattle.rbac_match.specs.Tokens.{Token}
 use Rattle.rbac_policy.specs.Condition.{IsProgramOf, Program, came_true}
 use Rattle.rbac_policy.specs.Admission.{IsAdmittedAs}

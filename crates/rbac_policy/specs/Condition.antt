@@ -9,8 +9,8 @@ use Rattle.cel_types.specs.Elaborated.{IsElaborated, TypedTree, kind}
 use Rattle.cel_types.specs.Meaning.{eval}
 use Rattle.cel_costs.specs.Costs.{cost_of}
 use Rattle.cel_compile.specs.Codes.{code_of}
-use Rattle.stack_machine.specs.Instructions.{Instruction}
-use Rattle.stack_machine.specs.Machine.{RunsOut}
+use Rattle.machine_code.specs.Instructions.{Instruction}
+use Rattle.machine_code.specs.Machine.{RunsOut}
 use Rattle.stack_machine.specs.declared.error.RunError.{RunError}
 
 -- whether an expression's answer is true: an error is not, and neither is any other value

@@ -3,7 +3,7 @@ use Rattle.std.specs.Prelude.{ℕ, List, map, option_map}
 use Rattle.std.specs.String.{string_bytes}
 use Rattle.rbac_match.specs.Tokens.{Token}
 use Rattle.rbac_match.specs.View.{rules_view}
-use Rattle.stack_machine.specs.Instructions.{code_view}
+use Rattle.machine_code.specs.Instructions.{code_view}
 use Rattle.rbac_policy.specs.Condition.{Program}
 use Rattle.rbac_policy.specs.Filter.{Policy}
 use Rattle.rbac_policy.specs.declared.condition.Condition.{Condition}

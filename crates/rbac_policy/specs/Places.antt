@@ -1,8 +1,11 @@
 -- Where in a filter a fault is: the parts of a filter's message, and the steps to them.
-use Rattle.std.specs.Prelude.{◌≡◌, ◌≢◌, ◌⊎◌, ℕ, List, [], ◌∷◌, Some, slice_get}
+use Rattle.std.specs.Prelude.{◌≡◌, ◌≢◌, ◌⊎◌, ℕ, List, [], ◌∷◌, ◌++◌, Some, slice_get}
 use Rattle.std.specs.FinMap.{entries}
 use Rattle.cel_tree.specs.Checked.{CelChecked}
-use Rattle.cel_tree.specs.Message.{ExprFault, ExprParts, IsExprOf, ArePresent, checked_parts, unchecked_parts}
+use Rattle.cel_tree.specs.Message.{ExprFault, ExprParts, IsExprOf, ArePresent, checked_field, checked_parts, unchecked_parts}
+use Rattle.cel_tree.specs.Places.{NamesNode}
+use Rattle.cel_read.specs.Places.{ExprFaultAt}
+use Rattle.cel_check.specs.Places.{CheckFaultAt, id_of}
 use Rattle.cel_types.specs.Typing.{IsTyped}
 use Rattle.cel_types.specs.TypingFaults.{CheckFault}
 use Rattle.cel_value.specs.Types.{ValueType, bool_type}
@@ -11,7 +14,7 @@ use Rattle.proto_wire.specs.Maps.{Entry, text, Readable, map_of}
 use Rattle.proto_wire.specs.Merge.{Merges}
 use Rattle.proto_wire.specs.Messages.{MessageFault}
 use Rattle.proto_wire.specs.Places as places
-use Rattle.proto_wire.specs.Places.{Path, BeginsWith, path_at, path_of}
+use Rattle.proto_wire.specs.Places.{Path, End, BeginsWith, path_of}
 use Rattle.proto_wire.specs.Values.{payloads}
 use Rattle.proto_wire.specs.declared.place.Step.{Step}
 use Rattle.proto_wire.specs.declared.placed.Fault.{Fault}
@@ -26,12 +29,13 @@ use Rattle.rbac_policy.specs.Keys.{rules_keys, filter_field, rules_field, policy
 use Rattle.rbac_policy.specs.Message.{condition_in, rule_depth}
 
 -- a part of a filter: its message, its rules, a policy, the condition of a policy, or a part of one of its
--- permissions or principals; each with its payloads
+-- permissions or principals; each with its payloads. A part of a condition is what these steps name in it
 pub data Part : Type 0 where
   of_filter : (bytes : List ℕ) → Part
   of_rules : (parts : List (List ℕ)) → Part
   of_policy : (parts : List (List ℕ)) → Part
   of_condition : ExprParts → Part
+  in_condition : ExprParts → List Step → Part
   in_rule : Side → rules_of.Part → Part
 
 -- a fault of a condition, whatever it costs
@@ -41,13 +45,32 @@ pub data ConditionWrong (parts : ExprParts) (e : Refusal) : Type 0 where
   of_another_type : (x : CelChecked) (t : ValueType) → IsExprOf parts x → IsTyped x t → t ≢ bool_type
       → e ≡ NotBool → ConditionWrong parts e
 
--- a fault of a part
+-- a fault of an expression that reads, at this path: it has no type, or its root is of another type than bool
+pub data NodeWrongAt (x : CelChecked) (path : Path) (e : Refusal) : Type 0 where
+  untyped_at : CheckFaultAt x path e → NodeWrongAt x path e
+  not_bool_at : (t : ValueType) → IsTyped x t → t ≢ bool_type → e ≡ NotBool → NamesNode (id_of x.tree) path
+      → NodeWrongAt x path e
+
+-- the outer path leads in a condition to where the inner one leads in its expression
+abbrev pub IsOfExpr : ExprParts → Path → Path → Type 0
+IsOfExpr (checked_parts parts) inner outer = BeginsWith checked_field.expr 0 inner outer
+IsOfExpr (unchecked_parts parts) inner outer = outer ≡ inner
+
+-- a fault of a condition at this path, whatever it costs
+pub data ConditionWrongAt (parts : ExprParts) (path : Path) (e : Refusal) : Type 0 where
+  unreadable_at : ExprFaultAt parts path e → ConditionWrongAt parts path e
+  wrong_at : (x : CelChecked) (inner : Path) → IsExprOf parts x → NodeWrongAt x inner e
+      → IsOfExpr parts inner path → ConditionWrongAt parts path e
+
+-- a fault of a part; in a condition, one at a path that begins with the steps
 abbrev pub PartFault : Part → Refusal → Type 0
 PartFault (of_filter bytes) e = FilterFault bytes e
 PartFault (of_rules parts) e =
     MessageFault rules_keys parts e ⊎ ((fs : List Wire) × Merges parts fs × RulesFault fs e)
 PartFault (of_policy parts) e = PolicyFault parts e
 PartFault (of_condition parts) e = ConditionWrong parts e
+PartFault (in_condition parts steps) e = (more : List Step) × (end : End)
+    × ConditionWrongAt parts (record { steps = steps ++ more; end = end }) e
 PartFault (in_rule side part) e = rules_of.PartFault side part e
 
 -- the field of a policy that has the rules of this side
@@ -100,7 +123,8 @@ abbrev pub StepTo : Part → Step → Part → Type 0
 StepTo (of_filter bytes) s q = ToRules bytes s q
 StepTo (of_rules parts) s q = ToPolicy parts s q
 StepTo (of_policy parts) s q = (fs : List Wire) × Merges parts fs × (ToRule fs s q ⊎ ToCondition fs s q)
-StepTo (of_condition parts) s q = ⊥
+StepTo (of_condition parts) s q = q ≡ in_condition parts (s ∷ [])
+StepTo (in_condition parts steps) s q = q ≡ in_condition parts (steps ++ s ∷ [])
 StepTo (in_rule side p) s q = (r : rules_of.Part) × rules_of.StepTo side p s r × (q ≡ in_rule side r)
 
 -- the part to which the steps lead has the fault
@@ -115,11 +139,20 @@ OfNoPart e = (e ≡ Memory) ⊎ (e ≡ TooCostly)
 abbrev pub PlacedOr : Part → Fault → Type 0
 PlacedOr p fault = OfNoPart fault.refusal ⊎ FaultAt (path_of fault.place).steps p fault.refusal
 
+-- the same for an expression that reads
+abbrev pub NodeOr : CelChecked → Fault → Type 0
+NodeOr x fault = OfNoPart fault.refusal ⊎ NodeWrongAt x (path_of fault.place) fault.refusal
+
+-- the same for the payloads of a condition
+abbrev pub ConditionPartOr : ExprParts → Fault → Type 0
+ConditionPartOr parts fault = OfNoPart fault.refusal
+    ⊎ (ArePresent parts × ConditionWrongAt parts (path_of fault.place) fault.refusal)
+
 -- the same for a condition in the fields of a policy; the first step names its field
 abbrev pub ConditionOr : List Wire → Fault → Type 0
 ConditionOr fs fault = OfNoPart fault.refusal
-    ⊎ (ArePresent (condition_in fs) × ConditionWrong (condition_in fs) fault.refusal
-    × BeginsWith (condition_field (condition_in fs)) 0 (path_at 0) (path_of fault.place))
+    ⊎ (ArePresent (condition_in fs) × (inner : Path) × ConditionWrongAt (condition_in fs) inner fault.refusal
+    × BeginsWith (condition_field (condition_in fs)) 0 inner (path_of fault.place))
 
 -- the same for one of the entries of a map of policies; the first step names it
 abbrev pub EntryOr : ℕ → Entry text → Fault → Type 0

@@ -7,7 +7,7 @@ use Rattle.cel_value.specs.Values.{CelAnswer, CelValue, bool, fails, value}
 use Rattle.cel_tree.specs.Checked.{CelChecked}
 use Rattle.cel_types.specs.Meaning.{eval}
 use Rattle.rbac_match.specs.Formula.{some_hold}
-use Rattle.stack_machine.specs.Machine.{Ends}
+use Rattle.machine_code.specs.Machine.{Ends}
 use Rattle.rbac_policy.specs.Condition.{IsProgramOf, Program}
 use Rattle.rbac_policy.specs.Filter.{Policy}
 use Rattle.rbac_policy.specs.Verdict.{sides_match}

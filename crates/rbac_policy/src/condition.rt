@@ -7,30 +7,34 @@ ghost use Rattle.cel_tree.specs.View.{checked_view};
 ghost use Rattle.cel_types.specs.Elaborated.{IsElaborated};
 ghost use Rattle.cel_types.specs.View.{typed_view};
 ghost use Rattle.cel_value.specs.Types.{bool_type, type_view};
-ghost use Rattle.proto_wire.specs.Refusal.{MemoryOr};
+ghost use Rattle.cel_tree.specs.Places.{NamesNode};
+ghost use Rattle.cel_check.specs.Places.{id_of};
+ghost use Rattle.proto_wire.specs.Places.{FaultOr, path_of};
 ghost use Rattle.proto_wire.specs.declared.refusal.Refusal.TheVariants.{NotBool};
 ghost use Rattle.cel_value.specs.View.{answer_view};
 ghost use Rattle.rbac_policy.specs.Condition.{IsProgramOf, MemoryOrSteps, came_true};
 ghost use Rattle.rbac_policy.specs.Named.{program_view};
+ghost use Rattle.rbac_policy.specs.Places.{NodeOr};
 ghost use Rattle.rbac_policy.specs.steps.Conditions.{ExpressionFault};
 ghost use Rattle.rbac_policy.specs.steps.Runs.{RunsAs};
 ghost use Rattle.rbac_policy.specs.Trials.{IsReasonOf};
 ghost use Rattle.rbac_policy.specs.steps.Trials.{EndsWith, TakesOf};
-ghost use Rattle.stack_machine.specs.Instructions.{code_view};
-ghost use Rattle.stack_machine.specs.Machine.{RunsOut};
-ghost use Rattle.stack_machine.specs.Typable.{Forward};
+ghost use Rattle.machine_code.specs.Instructions.{code_view};
+ghost use Rattle.machine_code.specs.Machine.{RunsOut};
+ghost use Rattle.machine_code.specs.Typable.{Forward};
 
 use crate::trials::Reason;
 use attributes::{Limits, Request};
-use cel_check::check;
+use cel_check::{check_at, id_of};
 use cel_compile::compile;
-use cel_tree::Checked;
+use cel_tree::{Checked, fault_of_node};
 use cel_types::Typed;
 use cel_value::{Answer, CelType, Value};
 use code_verifier::{VerifyFault, verify};
 use cost_bound::bound;
-use proto_wire::Refusal;
-use stack_machine::{Code, RunError, Verified, run};
+use machine_code::{Code, Verified};
+use proto_wire::{Fault, Refusal};
+use stack_machine::{RunError, run};
 use std::alloc::Global;
 use std::fmt;
 
@@ -88,53 +92,58 @@ fn is_true(answer: &Answer) -> bool
 
 /// The condition of the expression, for requests within the limits; it may take at most `left` steps. The
 /// expression was read from some parts, so a code has room for it, and the code is verified. Its tree is not
-/// kept.
+/// kept. The place of a fault names a node.
 pub(crate) fn condition_of(
     alloc: Global,
     checked: &Checked,
     limits: &Limits,
     left: u64,
-) -> Result<Condition, Refusal>
+) -> Result<Condition, Fault>
     requires { (parts : ExprParts) × IsExprOf parts (checked_view checked.now) }
     ensures found { IfOk result (λ c. IsProgramOf limits.now (checked_view checked.now) (program_view c)) }
     ensures cheap { IfOk result (λ c. c.bound ≤ left) }
-    ensures fault { IfErr result (MemoryOr (ExpressionFault (checked_view checked.now) limits.now left)) }
+    ensures fault { IfErr result (FaultOr (ExpressionFault (checked_view checked.now) limits.now left)) }
+    ensures place { IfErr result (NodeOr (checked_view checked.now)) }
 {
-    let typed = check(alloc, checked)?;
-    enforced(alloc, &typed, limits, left)
+    let typed = check_at(alloc, checked)?;
+    enforced(alloc, id_of(&checked.tree), &typed, limits, left)
 }
 
-/// The condition of an elaborated expression. The expression was read from some parts.
+/// The condition of an elaborated expression, whose root has this id. The expression was read from some parts.
 fn enforced(
     alloc: Global,
+    root: i64,
     typed: &Typed<'_>,
     limits: &Limits,
     left: u64,
-) -> Result<Condition, Refusal>
+) -> Result<Condition, Fault>
     requires { (parts : ExprParts) × (x : CelChecked) × IsExprOf parts x
         × IsElaborated x (typed_view typed.now) }
     ensures found { (x : CelChecked) → IsElaborated x (typed_view typed.now)
         → IfOk result (λ c. IsProgramOf limits.now x (program_view c)) }
     ensures cheap { IfOk result (λ c. c.bound ≤ left) }
     ensures fault { (x : CelChecked) → IsElaborated x (typed_view typed.now)
-        → IfErr result (MemoryOr (ExpressionFault x limits.now left)) }
+        → IfErr result (FaultOr (ExpressionFault x limits.now left)) }
+    ensures place { (x : CelChecked) → IsElaborated x (typed_view typed.now) → id_of x.tree ≡ root
+        → IfErr result (NodeOr x) }
 {
-    require_bool(typed.root.cel_type())?;
+    require_bool(root, typed.root.cel_type())?;
     let steps = bound(alloc, typed, limits, left)?;
     let code = compile(alloc, typed)?;
     let code = verified(alloc, code)?;
     Ok(Condition { code, bound: steps })
 }
 
-/// Refuses every type except bool.
-fn require_bool(found: &CelType) -> Result<(), Refusal>
+/// Refuses every type except bool, at the node with this id.
+fn require_bool(root: i64, found: &CelType) -> Result<(), Fault>
     ensures found { OnOk result (type_view found.now ≡ bool_type) }
-    ensures fault { IfErr result (λ e. (type_view found.now ≢ bool_type) × (e ≡ NotBool)) }
+    ensures fault { IfErr result (λ f. (type_view found.now ≢ bool_type) × (f.refusal ≡ NotBool)
+        × NamesNode root (path_of f.place)) }
 {
     if *found == CelType::Bool {
         return Ok(());
     }
-    Err(Refusal::NotBool)
+    Err(fault_of_node(Refusal::NotBool, root))
 }
 
 /// Verifies that the code answers a bool.

@@ -8,7 +8,7 @@ ghost use Rattle.attributes.specs.Request.{RequestValue};
 ghost use Rattle.cel_tree.specs.Checked.{CelChecked};
 ghost use Rattle.cel_tree.specs.Message.{ExprParts, IsExprOf};
 ghost use Rattle.cel_value.specs.Types.{bool_type};
-ghost use Rattle.stack_machine.specs.Typable.{Forward};
+ghost use Rattle.machine_code.specs.Typable.{Forward};
 ghost use Rattle.rbac_policy.specs.Condition.{IsProgramOf, Program};
 ghost use Rattle.rbac_policy.specs.Costs.{FilterCosts};
 ghost use Rattle.rbac_policy.specs.Enforced.{Enforces, total_bound};

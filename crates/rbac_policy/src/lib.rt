@@ -11,7 +11,6 @@ mod keys;
 pub mod laws;
 mod numbers;
 mod place;
-mod place_in_condition;
 mod policy;
 mod policy_index;
 mod trials;

@@ -30,3 +30,12 @@ pub(crate) const CONDITION: u32 = 3;
 
 /// `checked_condition` of a policy.
 pub(crate) const CHECKED_CONDITION: u32 = 4;
+
+/// `reference_map` of a checked expression (`google/api/expr/v1alpha1/checked.proto`).
+pub(crate) const REFERENCE_MAP: u32 = 2;
+
+/// `type_map` of a checked expression.
+pub(crate) const TYPE_MAP: u32 = 3;
+
+/// `expr` of a checked expression.
+pub(crate) const EXPR: u32 = 4;

@@ -2,9 +2,9 @@
 
 use crate::admission::admit_at;
 use crate::numbers::{
-    ACTION, AUDIT_LOGGING_OPTIONS, CHECKED_CONDITION, PERMISSIONS, POLICIES, PRINCIPALS, RULES,
+    ACTION, AUDIT_LOGGING_OPTIONS, CHECKED_CONDITION, EXPR, PERMISSIONS, POLICIES, PRINCIPALS,
+    REFERENCE_MAP, RULES, TYPE_MAP,
 };
-use crate::place_in_condition::place_in_condition;
 use attributes::Limits;
 use proto_wire::{
     Fault, Field, MapEntry, Refusal, Step, len_of, payloads_of, read_entries, read_fields,
@@ -18,6 +18,12 @@ const TO_POLICY: usize = 1;
 
 /// The step from a policy to one of its rules, or to its condition.
 const INTO_POLICY: usize = 2;
+
+/// The step from a condition to its node, or to a field of a checked one.
+const INTO_CONDITION: usize = 3;
+
+/// The step from a field of a checked condition to its node, or to its entry.
+const INTO_CHECKED: usize = 4;
 
 /// How many steps lead from a filter to a permission or a principal.
 const STEPS_TO_A_RULE: usize = 3;
@@ -113,14 +119,49 @@ fn part_of_fields(
     match step.number {
         PERMISSIONS => part_of_side(alloc, Side::Permission, fields, step, fault),
         PRINCIPALS => part_of_side(alloc, Side::Principal, fields, step, fault),
-        _ if fault.refusal == Refusal::TooCostly => {
-            let field = match step.number {
-                CHECKED_CONDITION => "checked_condition",
-                _ => "condition",
-            };
-            String::from_str(alloc, field).ok()
+        CHECKED_CONDITION => part_of_checked(alloc, fault),
+        _ => node_at(alloc, "condition", fault.place.step(INTO_CONDITION)),
+    }
+}
+
+/// The part of a checked condition that has the fault: a node, as `checked_condition.expr, node 5`, or an entry of a
+/// map, as `checked_condition.type_map[5]`. For `TooCostly` it is the condition.
+fn part_of_checked(alloc: Global, fault: &Fault) -> Option<String> {
+    if fault.refusal == Refusal::TooCostly {
+        return String::from_str(alloc, "checked_condition").ok();
+    }
+    let id = fault.place.step(INTO_CHECKED);
+    match number_in_checked(fault) {
+        Some(EXPR) => node_at(alloc, "checked_condition.expr", id),
+        Some(TYPE_MAP) => entry_at(alloc, "checked_condition.type_map", id),
+        Some(REFERENCE_MAP) => entry_at(alloc, "checked_condition.reference_map", id),
+        _ => String::from_str(alloc, "checked_condition").ok(),
+    }
+}
+
+/// The field of a checked expression that has the fault.
+fn number_in_checked(fault: &Fault) -> Option<u32> {
+    match fault.place.step(INTO_CONDITION) {
+        Some(step) => Some(step.number),
+        None => fault.place.field(),
+    }
+}
+
+/// A node of an expression, by the step to it. A node of the id 0 is not named.
+fn node_at(alloc: Global, name: &str, step: Option<Step>) -> Option<String> {
+    match step {
+        Some(Step { position, .. }) if position != 0 => {
+            format!(in alloc; "{name}, node {position}").ok()
         }
-        _ => place_in_condition(alloc, fields, fault.refusal),
+        _ => String::from_str(alloc, name).ok(),
+    }
+}
+
+/// An entry of a map, by the step to it.
+fn entry_at(alloc: Global, name: &str, step: Option<Step>) -> Option<String> {
+    match step {
+        Some(Step { position, .. }) => format!(in alloc; "{name}[{position}]").ok(),
+        None => String::from_str(alloc, name).ok(),
     }
 }
 

@@ -1,6 +1,6 @@
 //! Policies, and the reading of their messages.
 
-ghost use Rattle.std.specs.Prelude.{◌≡◌, ◌≢◌, ◌≤◌, ◌+◌, ◌⊎◌, ◌++◌, ◌∷◌, [], List, T, IfOk, IfErr, OnOk, MatchBool, length, map, option_map};
+ghost use Rattle.std.specs.Prelude.{◌≡◌, ◌≢◌, ◌≤◌, ◌+◌, ◌⊎◌, ◌++◌, ◌∷◌, [], List, T, Ok, IfOk, IfErr, IsErrAnd, OnOk, MatchBool, MatchResult, length, map, option_map};
 ghost use Rattle.std.specs.FinMap.{is_sorted};
 ghost use Rattle.std.specs.String.{string_bytes};
 ghost use Rattle.attributes.specs.Headers.{name_cmp};
@@ -8,8 +8,9 @@ ghost use Rattle.proto_wire.specs.Fields.{field_view};
 ghost use Rattle.proto_wire.specs.Values.{payloads};
 ghost use Rattle.proto_wire.specs.Maps.{text, SomeValueFault};
 ghost use Rattle.proto_wire.specs.steps.Maps.{Held};
-ghost use Rattle.proto_wire.specs.Places.{FaultOr};
-ghost use Rattle.proto_wire.specs.Refusal.{MemoryOr};
+ghost use Rattle.proto_wire.specs.Places.{FaultOr, path_of};
+ghost use Rattle.cel_tree.specs.Places.{PlacedOr as Placed};
+ghost use Rattle.cel_read.specs.Places.{ExprFaultAt};
 ghost use Rattle.proto_wire.specs.Merge.{parts_view};
 ghost use Rattle.rbac_match.specs.Tokens.{GoesOn, Token};
 ghost use Rattle.rbac_policy.specs.Enforced.{bound_of, bounds_of};
@@ -19,16 +20,16 @@ ghost use Rattle.cel_tree.specs.View.{checked_view};
 ghost use Rattle.rbac_policy.specs.Message.{HasBothSides, condition_in};
 ghost use Rattle.rbac_policy.specs.Fault.{PolicyFault};
 ghost use Rattle.rbac_policy.specs.Named.{named_views, policy_view, program_view};
-ghost use Rattle.rbac_policy.specs.Places.{ConditionOr, EntryOr, PlacedOr, PoliciesOr, condition_field, of_policy};
+ghost use Rattle.rbac_policy.specs.Places.{ConditionOr, ConditionPartOr, EntryOr, IsOfExpr, PlacedOr, PoliciesOr, condition_field, of_policy};
 ghost use Rattle.rbac_policy.specs.steps.Conditions.{ConditionFault, ConditionsFault, HasProgram, IsEnforced};
 ghost use Rattle.rbac_policy.specs.steps.Named.{names_view};
 ghost use Rattle.proto_wire.specs.declared.refusal.Refusal.TheVariants.{BothConditions, Missing};
 
 use crate::condition::{Condition, condition_of};
 use crate::keys::POLICY_KEYS;
-use crate::numbers::{CHECKED_CONDITION, CONDITION, PERMISSIONS, POLICIES, PRINCIPALS};
+use crate::numbers::{CHECKED_CONDITION, CONDITION, EXPR, PERMISSIONS, POLICIES, PRINCIPALS};
 use attributes::Limits;
-use cel_read::{read_checked_parts, read_unchecked_parts};
+use cel_read::{read_checked_at, read_unchecked_at};
 use cel_tree::Checked;
 use proto_wire::{
     Fault, Field, MapEntry, Refusal, has_payload, inside_field, payloads_of, read_message_at,
@@ -165,7 +166,7 @@ fn refuse_both(fields: &[Field<'_>]) -> Result<(), Refusal>
     Err(Refusal::BothConditions)
 }
 
-/// Reads the condition as `read_condition` does. The place of a fault is the condition.
+/// Reads the condition as `read_condition` does. The place of a fault is in the condition.
 fn condition_at(
     alloc: Global,
     fields: &[Field<'_>],
@@ -181,7 +182,7 @@ fn condition_at(
 {
     match read_condition(alloc, fields, limits, left) {
         Ok(condition) => Ok(condition),
-        Err(refusal) => Err(Fault::at(refusal, 0).inside(condition_number(fields), 0)),
+        Err(fault) => Err(fault.inside(condition_number(fields), 0)),
     }
 }
 
@@ -195,25 +196,52 @@ fn condition_number(fields: &[Field<'_>]) -> u32
     CONDITION
 }
 
-/// Reads the condition, checked or not, if there is one.
+/// Reads the condition, checked or not, if there is one. The place of a fault names a node, or the entry of a map.
 fn read_condition(
     alloc: Global,
     fields: &[Field<'_>],
     limits: &Limits,
     left: u64,
-) -> Result<Option<Condition>, Refusal>
+) -> Result<Option<Condition>, Fault>
     ensures found { IfOk result (λ found. HasProgram limits.now
         (condition_in (map field_view fields.now)) (option_map program_view found)) }
     ensures cheap { IfOk result (λ found. bound_of (option_map program_view found) ≤ left) }
-    ensures fault { IfErr result (MemoryOr (λ e. ArePresent (condition_in (map field_view fields.now))
+    ensures fault { IfErr result (FaultOr (λ e. ArePresent (condition_in (map field_view fields.now))
         × ConditionFault (condition_in (map field_view fields.now)) limits.now left e)) }
+    ensures place { IfErr result (ConditionPartOr (condition_in (map field_view fields.now))) }
 {
     if !has_condition(fields) {
         return Ok(None);
     }
     let checked = read_expr(alloc, fields)?;
-    let condition = condition_of(alloc, &checked, limits, left)?;
+    let condition = inside_expr(fields, condition_of(alloc, &checked, limits, left))?;
     Ok(Some(condition))
+}
+
+/// What was made of a condition's expression, or its fault as one of the condition.
+#[inline(always)]
+fn inside_expr<T>(fields: &[Field<'_>], made: Result<T, Fault>) -> Result<T, Fault>
+    ensures { MatchResult made (λ x. result ≡ Ok x)
+        (λ e. IsErrAnd result (λ f. (f.refusal ≡ e.refusal)
+        × IsOfExpr (condition_in (map field_view fields.now)) (path_of e.place) (path_of f.place))) }
+{
+    match made {
+        Ok(value) => Ok(value),
+        Err(fault) => Err(of_expr(fields, fault)),
+    }
+}
+
+/// The fault of a condition's expression, as one of the condition: a checked condition has its expression in a field.
+#[cold]
+#[inline(never)]
+fn of_expr(fields: &[Field<'_>], fault: Fault) -> Fault
+    ensures { (result.refusal ≡ fault.refusal)
+        × IsOfExpr (condition_in (map field_view fields.now)) (path_of fault.place) (path_of result.place) }
+{
+    if has_payload(fields, CHECKED_CONDITION) {
+        return fault.inside(EXPR, 0);
+    }
+    fault
 }
 
 /// Whether there is a condition, checked or not.
@@ -227,17 +255,19 @@ pub(crate) fn has_condition(fields: &[Field<'_>]) -> bool
     has_payload(fields, CONDITION)
 }
 
-/// Reads the expression of the condition: a checked expression, or one without entries.
-pub(crate) fn read_expr(alloc: Global, fields: &[Field<'_>]) -> Result<Checked, Refusal>
+/// Reads the expression of the condition: a checked expression, or one without entries. The place of a fault names a
+/// node, or the entry of a map.
+pub(crate) fn read_expr(alloc: Global, fields: &[Field<'_>]) -> Result<Checked, Fault>
     ensures found { IfOk result (λ c. IsExprOf (condition_in (map field_view fields.now)) (checked_view c)) }
-    ensures fault { IfErr result (MemoryOr (ExprFault (condition_in (map field_view fields.now)))) }
+    ensures fault { IfErr result (FaultOr (ExprFault (condition_in (map field_view fields.now)))) }
+    ensures place { IfErr result (Placed (ExprFaultAt (condition_in (map field_view fields.now)))) }
 {
     if has_payload(fields, CHECKED_CONDITION) {
         let parts = payloads_of(alloc, fields, CHECKED_CONDITION)?;
-        return read_checked_parts(alloc, &parts);
+        return read_checked_at(alloc, &parts);
     }
     let parts = payloads_of(alloc, fields, CONDITION)?;
-    read_unchecked_parts(alloc, &parts)
+    read_unchecked_at(alloc, &parts)
 }
 
 /// Refuses a policy without permissions or without principals.

@@ -1,5 +1,5 @@
 -- The results and faults of checking nodes.
-use Rattle.std.specs.Prelude.{◌≡◌, ◌≢◌, ◌⊎◌, ℕ, ℤ, Bool, false, List, [], ◌∷◌, ◌++◌, Option, Some}
+use Rattle.std.specs.Prelude.{◌≡◌, ◌≢◌, ◌⊎◌, ℕ, Bool, false, List, [], ◌∷◌, ◌++◌, Option, Some, None}
 use Rattle.std.specs.FinMap.{get}
 use Rattle.attributes.specs.declared.attribute.AttrId.{AttrId}
 use Rattle.cel_ops.specs.Attributes.{attribute_type}
@@ -13,21 +13,13 @@ use Rattle.cel_types.specs.Attributes.{attribute_named}
 use Rattle.cel_types.specs.Elaborated.{Elaborates, ElaboratesEach, TypedTree, TypedTrees, kind, kinds, typed_attribute, typed_call}
 use Rattle.cel_types.specs.Names.{root_of, turn_scope, variables_of}
 use Rattle.cel_types.specs.Typing.{EachAgrees, EntriesAgree, IsOver, Kinds, Maps, PairsAgree, RefAgrees, SelectAgrees, TargetAgrees, Types}
-use Rattle.cel_types.specs.TypingFaults.{TypeFault}
+use Rattle.cel_types.specs.TypingFaults.{AreGot}
+use Rattle.cel_check.specs.Places.{OwnFault, TypeFaultAt, TargetFaultAt, SomeFaultAt, PairFaultAt}
 use Rattle.cel_types.specs.View.{typed_of}
 use Rattle.cel_check.specs.steps.Kinds.{NoElements}
+use Rattle.proto_wire.specs.Places.{Path, path_at}
 use Rattle.proto_wire.specs.declared.refusal.Refusal.{Refusal}
 use Rattle.proto_wire.specs.declared.refusal.Refusal.TheVariants.{Missing, NoOverload, OutOfRange}
-
--- the id of the root
-abbrev pub id_of : CelTree → ℤ
-id_of (constant id c) = id
-id_of (ident id n) = id
-id_of (select id o f t) = id
-id_of (call id f t xs) = id
-id_of (list_literal id es) = id
-id_of (map_literal id es) = id
-id_of (comprehension id x y acc range init condition step result) = id
 
 -- all entries of an expression agree; the type entry of its own node is left out
 abbrev pub InsideAgrees : Maps → Kinds → CelTree → Type 0
@@ -90,26 +82,46 @@ abbrev pub IsTurn : Maps → Kinds → (condition step : CelTree) → (gathered 
 IsTurn m ks condition step gathered c s = IsFound m ks condition c × (kind c ≡ bool_type)
     × IsFound m ks step s × (kind s ≡ gathered)
 
--- the condition or the step has a fault, or is of a wrong type
-abbrev pub TurnFault : Maps → Kinds → (condition step : CelTree) → (gathered : ValueType) → Refusal
-    → Type 0
-TurnFault m ks condition step gathered e =
-    (TypeFault m ks condition e ⊎ TypeFault m ks step e)
-    ⊎ ((((t : ValueType) × Types m ks condition t × (t ≢ bool_type)) × (e ≡ NoOverload))
-    ⊎ (((t : ValueType) × Types m ks step t × (t ≢ gathered)) × (e ≡ NoOverload)))
+-- a node inside the expression has the fault, at this path
+abbrev pub InsideAt : Maps → Kinds → CelTree → Path → Refusal → Type 0
+InsideAt m ks (constant id v) path e = ⊥
+InsideAt m ks (ident id name) path e = ⊥
+InsideAt m ks (select id operand field test_only) path e = (root_of operand ks ≡ None) × TypeFaultAt m ks operand path e
+InsideAt m ks (call id name on args) path e = TargetFaultAt m ks on path e ⊎ SomeFaultAt m ks args path e
+InsideAt m ks (list_literal id elements) path e = SomeFaultAt m ks elements path e
+InsideAt m ks (map_literal id entries) path e = PairFaultAt m ks entries path e
+InsideAt m ks (comprehension id x y acc range init condition step result) path e =
+    (TypeFaultAt m ks range path e ⊎ TypeFaultAt m ks init path e)
+    ⊎ (((each : List ValueType) × (a : ValueType) × AreGot (variables_of y) (Types m ks range) each × Types m ks init a
+    × (TypeFaultAt m (turn_scope x y acc each a ks) condition path e
+    ⊎ TypeFaultAt m (turn_scope x y acc each a ks) step path e))
+    ⊎ ((a : ValueType) × Types m ks init a × TypeFaultAt m ((acc, a) ∷ ks) result path e))
 
--- the step has a fault, or is of a wrong type
-abbrev pub StepFault : Maps → Kinds → (step : CelTree) → (gathered : ValueType) → Refusal → Type 0
-StepFault m ks step gathered e = TypeFault m ks step e
-    ⊎ (((t : ValueType) × Types m ks step t × (t ≢ gathered)) × (e ≡ NoOverload))
+-- the fault is the node's own, and no path is given yet; or a node inside has it, at the path
+abbrev pub PlacedInside : Maps → Kinds → CelTree → Path → Refusal → Type 0
+PlacedInside m ks t path e = ((path ≡ path_at 0) × OwnFault m ks t e) ⊎ InsideAt m ks t path e
+
+-- the condition or the step has a fault; or one is of a wrong type, and no path is given yet
+abbrev pub TurnFault : Maps → Kinds → (condition step : CelTree) → (gathered : ValueType) → Path → Refusal
+    → Type 0
+TurnFault m ks condition step gathered path e =
+    (TypeFaultAt m ks condition path e ⊎ TypeFaultAt m ks step path e)
+    ⊎ ((path ≡ path_at 0)
+    × ((((t : ValueType) × Types m ks condition t × (t ≢ bool_type)) × (e ≡ NoOverload))
+    ⊎ (((t : ValueType) × Types m ks step t × (t ≢ gathered)) × (e ≡ NoOverload))))
+
+-- the step has a fault; or it is of a wrong type, and no path is given yet
+abbrev pub StepFault : Maps → Kinds → (step : CelTree) → (gathered : ValueType) → Path → Refusal → Type 0
+StepFault m ks step gathered path e = TypeFaultAt m ks step path e
+    ⊎ ((path ≡ path_at 0) × ((t : ValueType) × Types m ks step t × (t ≢ gathered)) × (e ≡ NoOverload))
 
 -- these are the elaborations of two expressions, whose entries agree
 abbrev pub AreTwo : Maps → Kinds → (first second : CelTree) → TypedTree → TypedTree → Type 0
 AreTwo m ks first second a b = IsFound m ks first a × IsFound m ks second b
 
 -- one of two expressions has a fault
-abbrev pub EitherFault : Maps → Kinds → (first second : CelTree) → Refusal → Type 0
-EitherFault m ks first second e = TypeFault m ks first e ⊎ TypeFault m ks second e
+abbrev pub EitherFault : Maps → Kinds → (first second : CelTree) → Path → Refusal → Type 0
+EitherFault m ks first second path e = TypeFaultAt m ks first path e ⊎ TypeFaultAt m ks second path e
 
 -- these are the elaborations of the condition, the step and the result of a comprehension, whose range and initial
 -- value have these types
@@ -121,9 +133,11 @@ IsBody m ks p walked gathered c s e = (each : List ValueType)
     gathered c s
     × IsFound m ((p.accu_var, gathered) ∷ ks) p.result e
 
--- the range has no elements, or the condition, the step or the result has a fault, or is of a wrong type
-abbrev pub BodyFault : Maps → Kinds → LoopParts → (walked gathered : ValueType) → Refusal → Type 0
-BodyFault m ks p walked gathered e = NoElements (variables_of p.iter_var2) walked e
+-- the range has no elements, and no path is given yet; or the condition, the step or the result has a fault, or is of a
+-- wrong type
+abbrev pub BodyFault : Maps → Kinds → LoopParts → (walked gathered : ValueType) → Path → Refusal → Type 0
+BodyFault m ks p walked gathered path e =
+    ((path ≡ path_at 0) × NoElements (variables_of p.iter_var2) walked e)
     ⊎ ((each : List ValueType) × IsOver (variables_of p.iter_var2) walked each
     × (TurnFault m (turn_scope p.iter_var p.iter_var2 p.accu_var each gathered ks) p.loop_condition p.loop_step
-    gathered e ⊎ TypeFault m ((p.accu_var, gathered) ∷ ks) p.result e))
+    gathered path e ⊎ TypeFaultAt m ((p.accu_var, gathered) ∷ ks) p.result path e))

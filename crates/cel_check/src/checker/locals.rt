@@ -97,7 +97,7 @@ fn loop_has_few(parts: &Comprehension, most: u8) -> bool
 }
 
 /// The number of a comprehension's locals: its variables and its accumulator.
-fn own_locals(parts: &Comprehension) -> u8
+pub(super) fn own_locals(parts: &Comprehension) -> u8
     ensures { result ≡ variable_count (variables_of (text_view parts.now.iter_var2)) + 1 }
 {
     match variables_of(&parts.iter_var2) {

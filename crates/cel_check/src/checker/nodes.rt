@@ -8,12 +8,12 @@ ghost use Rattle.cel_value.specs.Texts.{text_view};
 ghost use Rattle.cel_value.specs.Types.{type_view};
 ghost use Rattle.cel_types.specs.Elaborated.{ElaboratesPairs, kind};
 ghost use Rattle.cel_types.specs.Typing.{PairsAgree, locals_in, locals_in_each, locals_in_entries, locals_in_target, maps_of, most_locals};
-ghost use Rattle.cel_types.specs.TypingFaults.{PairFault, SomeFault, TargetFault, TypeFault};
 ghost use Rattle.cel_types.specs.View.{expr_view};
 ghost use Rattle.cel_types.specs.steps.ExprViews.{exprs_view};
-ghost use Rattle.cel_check.specs.steps.Checks.{AreFound, AreTwo, BodyFault, EitherFault, IsBody, IsFound, IsNode, IsTarget, IsTurn, StepFault, TurnFault, id_of};
+ghost use Rattle.cel_tree.specs.Places.{PlacedOr};
+ghost use Rattle.cel_check.specs.Places.{PairFaultAt, SomeFaultAt, TargetFaultAt, TypeFaultAt};
+ghost use Rattle.cel_check.specs.steps.Checks.{AreFound, AreTwo, BodyFault, EitherFault, IsBody, IsFound, IsNode, IsTarget, IsTurn, PlacedInside, StepFault, TurnFault};
 ghost use Rattle.cel_check.specs.steps.Scopes.{locals_in_loop, scope_view};
-ghost use Rattle.proto_wire.specs.Refusal.{MemoryOr};
 
 use crate::checker::calls::call_expr;
 use crate::checker::entries::require_type;
@@ -21,12 +21,13 @@ use crate::checker::kinds::{bool_expr, constant_type, expr_of, turn_types};
 use crate::checker::literals::{list_type, map_type};
 use crate::checker::loops::{loop_expr, require_names_differ, variables_of};
 use crate::checker::names::bare_root;
+use crate::checker::naming::{at_node, id_of};
 use crate::checker::scope::Scope;
 use crate::checker::variables::{check_attribute, check_ident, field_expr};
 use cel_tree::{Checked, Comprehension, Tree, TreeEntry, both, kept};
 use cel_types::TypedExpr;
 use cel_value::CelType;
-use proto_wire::Refusal;
+use proto_wire::Fault;
 use std::alloc::Global;
 use std::rc::RcStr;
 
@@ -37,31 +38,34 @@ pub(super) fn check_tree<'a>(
     checked: &'a Checked,
     scope: &Scope<'_>,
     tree: &'a Tree,
-) -> Result<TypedExpr<'a>, Refusal>
+) -> Result<TypedExpr<'a>, Fault>
     requires { length (scope_view scope.now) + locals_in (tree_view tree.now) ≤ most_locals }
     ensures found { IfOk result (λ e. IsFound (maps_of (checked_view checked.now)) (scope_view scope.now)
         (tree_view tree.now) (expr_view e)) }
-    ensures fault { IfErr result (MemoryOr (TypeFault (maps_of (checked_view checked.now)) (scope_view scope.now)
+    ensures fault { IfErr result (PlacedOr (TypeFaultAt (maps_of (checked_view checked.now)) (scope_view scope.now)
+        (tree_view tree.now))) }
+{
+    at_node(check_agreeing(alloc, checked, scope, tree), id_of(tree))
+}
+
+/// Checks an expression, as `check_tree` does. A fault of its own node has no place.
+#[cycle(check)]
+#[inline(always)]
+fn check_agreeing<'a>(
+    alloc: Global,
+    checked: &'a Checked,
+    scope: &Scope<'_>,
+    tree: &'a Tree,
+) -> Result<TypedExpr<'a>, Fault>
+    requires { length (scope_view scope.now) + locals_in (tree_view tree.now) ≤ most_locals }
+    ensures found { IfOk result (λ e. IsFound (maps_of (checked_view checked.now)) (scope_view scope.now)
+        (tree_view tree.now) (expr_view e)) }
+    ensures fault { IfErr result (PlacedOr (PlacedInside (maps_of (checked_view checked.now)) (scope_view scope.now)
         (tree_view tree.now))) }
 {
     let typed = check_node(alloc, checked, scope, tree)?;
     let agrees = require_type(checked.types.get(id_of(tree)), typed.cel_type());
-    kept(typed, agrees)
-}
-
-/// The id of an expression's node.
-pub(super) fn id_of(tree: &Tree) -> i64
-    ensures { result ≡ id_of (tree_view tree.now) }
-{
-    match tree {
-        Tree::Constant { id, .. } => *id,
-        Tree::Ident { id, .. } => *id,
-        Tree::Select { id, .. } => *id,
-        Tree::Call { id, .. } => *id,
-        Tree::List { id, .. } => *id,
-        Tree::Map { id, .. } => *id,
-        Tree::Comprehension { id, .. } => *id,
-    }
+    Ok(kept(typed, agrees)?)
 }
 
 /// Checks an expression, without the type entry of its own node.
@@ -71,11 +75,11 @@ fn check_node<'a>(
     checked: &'a Checked,
     scope: &Scope<'_>,
     tree: &'a Tree,
-) -> Result<TypedExpr<'a>, Refusal>
+) -> Result<TypedExpr<'a>, Fault>
     requires { length (scope_view scope.now) + locals_in (tree_view tree.now) ≤ most_locals }
     ensures found { IfOk result (λ e. IsNode (maps_of (checked_view checked.now)) (scope_view scope.now)
         (tree_view tree.now) (expr_view e)) }
-    ensures fault { IfErr result (MemoryOr (TypeFault (maps_of (checked_view checked.now)) (scope_view scope.now)
+    ensures fault { IfErr result (PlacedOr (PlacedInside (maps_of (checked_view checked.now)) (scope_view scope.now)
         (tree_view tree.now))) }
 {
     match tree {
@@ -83,7 +87,7 @@ fn check_node<'a>(
             cel_type: constant_type(value),
             value,
         }),
-        Tree::Ident { id, name } => check_ident(alloc, checked, scope, *id, name),
+        Tree::Ident { id, name } => Ok(check_ident(alloc, checked, scope, *id, name)?),
         Tree::Select {
             id,
             operand,
@@ -98,7 +102,7 @@ fn check_node<'a>(
         } => {
             let first = check_target(alloc, checked, scope, target)?;
             let operands = check_each(alloc, checked, scope, args, first)?;
-            call_expr(alloc, function, target.is_some(), operands)
+            Ok(call_expr(alloc, function, target.is_some(), operands)?)
         }
         Tree::List { id, elements } => check_list(alloc, checked, scope, *id, elements),
         Tree::Map { id, entries } => check_map(alloc, checked, scope, *id, entries),
@@ -116,18 +120,19 @@ fn check_select<'a>(
     operand: &'a Tree,
     field: &'a RcStr,
     test_only: bool,
-) -> Result<TypedExpr<'a>, Refusal>
+) -> Result<TypedExpr<'a>, Fault>
     requires { length (scope_view scope.now) + locals_in (tree_view operand.now) ≤ most_locals }
     ensures found { IfOk result (λ e. IsNode (maps_of (checked_view checked.now)) (scope_view scope.now)
         (select id (tree_view operand.now) (text_view field.now) test_only) (expr_view e)) }
-    ensures fault { IfErr result (MemoryOr (TypeFault (maps_of (checked_view checked.now)) (scope_view scope.now)
+    ensures fault { IfErr result (PlacedOr (PlacedInside (maps_of (checked_view checked.now)) (scope_view scope.now)
         (select id (tree_view operand.now) (text_view field.now) test_only))) }
 {
     if let Some(root) = bare_root(operand, scope) {
-        return check_attribute(alloc, &checked.refs, id, root, field, test_only);
+        let attribute = check_attribute(alloc, &checked.refs, id, root, field, test_only)?;
+        return Ok(attribute);
     }
     let map = check_tree(alloc, checked, scope, operand)?;
-    field_expr(alloc, map, field, test_only)
+    Ok(field_expr(alloc, map, field, test_only)?)
 }
 
 /// Checks the target of a call, if there is one.
@@ -137,11 +142,11 @@ fn check_target<'a>(
     checked: &'a Checked,
     scope: &Scope<'_>,
     target: &'a Option<Box<Tree>>,
-) -> Result<Vec<TypedExpr<'a>>, Refusal>
+) -> Result<Vec<TypedExpr<'a>>, Fault>
     requires { length (scope_view scope.now) + locals_in_target (target_of (boxed_view target.now)) ≤ most_locals }
     ensures found { IfOk result (λ v. IsTarget (maps_of (checked_view checked.now)) (scope_view scope.now)
         (target_of (boxed_view target.now)) (map expr_view v.items)) }
-    ensures fault { IfErr result (MemoryOr (TargetFault (maps_of (checked_view checked.now)) (scope_view scope.now)
+    ensures fault { IfErr result (PlacedOr (TargetFaultAt (maps_of (checked_view checked.now)) (scope_view scope.now)
         (target_of (boxed_view target.now)))) }
 {
     let mut found = Vec::new(alloc);
@@ -162,11 +167,11 @@ fn check_each<'a>(
     scope: &Scope<'_>,
     trees: &'a [Tree],
     before: Vec<TypedExpr<'a>>,
-) -> Result<Vec<TypedExpr<'a>>, Refusal>
+) -> Result<Vec<TypedExpr<'a>>, Fault>
     requires { length (scope_view scope.now) + locals_in_each (trees_view trees.now) ≤ most_locals }
     ensures found { IfOk result (λ v. AreFound (maps_of (checked_view checked.now)) (scope_view scope.now)
         (trees_view trees.now) (map expr_view before.entry.items) (map expr_view v.items)) }
-    ensures fault { IfErr result (MemoryOr (SomeFault (maps_of (checked_view checked.now)) (scope_view scope.now)
+    ensures fault { IfErr result (PlacedOr (SomeFaultAt (maps_of (checked_view checked.now)) (scope_view scope.now)
         (trees_view trees.now))) }
 {
     let mut typed = before;
@@ -184,11 +189,11 @@ fn check_list<'a>(
     scope: &Scope<'_>,
     id: i64,
     elements: &'a [Tree],
-) -> Result<TypedExpr<'a>, Refusal>
+) -> Result<TypedExpr<'a>, Fault>
     requires { length (scope_view scope.now) + locals_in_each (trees_view elements.now) ≤ most_locals }
     ensures found { IfOk result (λ e. IsNode (maps_of (checked_view checked.now)) (scope_view scope.now)
         (list_literal id (trees_view elements.now)) (expr_view e)) }
-    ensures fault { IfErr result (MemoryOr (TypeFault (maps_of (checked_view checked.now)) (scope_view scope.now)
+    ensures fault { IfErr result (PlacedOr (PlacedInside (maps_of (checked_view checked.now)) (scope_view scope.now)
         (list_literal id (trees_view elements.now)))) }
 {
     let elements = check_each(alloc, checked, scope, elements, Vec::new(alloc))?;
@@ -205,11 +210,11 @@ fn check_map<'a>(
     scope: &Scope<'_>,
     id: i64,
     entries: &'a [TreeEntry],
-) -> Result<TypedExpr<'a>, Refusal>
+) -> Result<TypedExpr<'a>, Fault>
     requires { length (scope_view scope.now) + locals_in_entries (tree_entries_view entries.now) ≤ most_locals }
     ensures found { IfOk result (λ e. IsNode (maps_of (checked_view checked.now)) (scope_view scope.now)
         (map_literal id (tree_entries_view entries.now)) (expr_view e)) }
-    ensures fault { IfErr result (MemoryOr (TypeFault (maps_of (checked_view checked.now)) (scope_view scope.now)
+    ensures fault { IfErr result (PlacedOr (PlacedInside (maps_of (checked_view checked.now)) (scope_view scope.now)
         (map_literal id (tree_entries_view entries.now)))) }
 {
     let pairs = check_pairs(alloc, checked, scope, entries)?;
@@ -224,12 +229,12 @@ fn check_pairs<'a>(
     checked: &'a Checked,
     scope: &Scope<'_>,
     entries: &'a [TreeEntry],
-) -> Result<Vec<TypedExpr<'a>>, Refusal>
+) -> Result<Vec<TypedExpr<'a>>, Fault>
     requires { length (scope_view scope.now) + locals_in_entries (tree_entries_view entries.now) ≤ most_locals }
     ensures found { IfOk result (λ v. ElaboratesPairs (maps_of (checked_view checked.now)) (scope_view scope.now)
         (tree_entries_view entries.now) (exprs_view v.items)
         × PairsAgree (maps_of (checked_view checked.now)) (scope_view scope.now) (tree_entries_view entries.now)) }
-    ensures fault { IfErr result (MemoryOr (PairFault (maps_of (checked_view checked.now)) (scope_view scope.now)
+    ensures fault { IfErr result (PlacedOr (PairFaultAt (maps_of (checked_view checked.now)) (scope_view scope.now)
         (tree_entries_view entries.now))) }
 {
     let mut pairs = Vec::new(alloc);
@@ -248,18 +253,18 @@ fn check_loop<'a>(
     scope: &Scope<'_>,
     id: i64,
     parts: &'a Comprehension,
-) -> Result<TypedExpr<'a>, Refusal>
+) -> Result<TypedExpr<'a>, Fault>
     requires { length (scope_view scope.now) + locals_in_loop (loop_view parts.now) ≤ most_locals }
     ensures found { IfOk result (λ e. IsNode (maps_of (checked_view checked.now)) (scope_view scope.now)
         (loop_of id (loop_view parts.now)) (expr_view e)) }
-    ensures fault { IfErr result (MemoryOr (TypeFault (maps_of (checked_view checked.now)) (scope_view scope.now)
+    ensures fault { IfErr result (PlacedOr (PlacedInside (maps_of (checked_view checked.now)) (scope_view scope.now)
         (loop_of id (loop_view parts.now)))) }
 {
     require_names_differ(&parts.iter_var, &parts.iter_var2, &parts.accu_var)?;
     let ends = check_ends(alloc, checked, scope, parts)?;
     let body = check_body(alloc, checked, scope, parts, &ends);
     let exprs = both(ends, body)?;
-    loop_expr(alloc, variables_of(&parts.iter_var2), exprs)
+    Ok(loop_expr(alloc, variables_of(&parts.iter_var2), exprs)?)
 }
 
 /// Checks the range and the initial value of a comprehension.
@@ -269,12 +274,12 @@ fn check_ends<'a>(
     checked: &'a Checked,
     scope: &Scope<'_>,
     parts: &'a Comprehension,
-) -> Result<(TypedExpr<'a>, TypedExpr<'a>), Refusal>
+) -> Result<(TypedExpr<'a>, TypedExpr<'a>), Fault>
     requires { length (scope_view scope.now) + max (locals_in (tree_view parts.now.iter_range))
         (locals_in (tree_view parts.now.accu_init)) ≤ most_locals }
     ensures found { IfOk result (λ ends. AreTwo (maps_of (checked_view checked.now)) (scope_view scope.now)
         (tree_view parts.now.iter_range) (tree_view parts.now.accu_init) (expr_view ends.0) (expr_view ends.1)) }
-    ensures fault { IfErr result (MemoryOr (EitherFault (maps_of (checked_view checked.now)) (scope_view scope.now)
+    ensures fault { IfErr result (PlacedOr (EitherFault (maps_of (checked_view checked.now)) (scope_view scope.now)
         (tree_view parts.now.iter_range) (tree_view parts.now.accu_init))) }
 {
     let range = check_tree(alloc, checked, scope, &parts.iter_range)?;
@@ -289,12 +294,12 @@ fn check_body<'a>(
     scope: &Scope<'_>,
     parts: &'a Comprehension,
     ends: &(TypedExpr<'a>, TypedExpr<'a>),
-) -> Result<((TypedExpr<'a>, TypedExpr<'a>), TypedExpr<'a>), Refusal>
+) -> Result<((TypedExpr<'a>, TypedExpr<'a>), TypedExpr<'a>), Fault>
     requires { length (scope_view scope.now) + locals_in_loop (loop_view parts.now) ≤ most_locals }
     ensures found { IfOk result (λ body. IsBody (maps_of (checked_view checked.now)) (scope_view scope.now)
         (loop_view parts.now) (kind (expr_view ends.now.0)) (kind (expr_view ends.now.1))
         (expr_view body.0.0) (expr_view body.0.1) (expr_view body.1)) }
-    ensures fault { IfErr result (MemoryOr (BodyFault (maps_of (checked_view checked.now)) (scope_view scope.now)
+    ensures fault { IfErr result (PlacedOr (BodyFault (maps_of (checked_view checked.now)) (scope_view scope.now)
         (loop_view parts.now) (kind (expr_view ends.now.0)) (kind (expr_view ends.now.1)))) }
 {
     let gathered = ends.1.cel_type();
@@ -316,13 +321,13 @@ fn check_turn<'a>(
     turn: &Scope<'_>,
     parts: &'a Comprehension,
     gathered: &CelType,
-) -> Result<(TypedExpr<'a>, TypedExpr<'a>), Refusal>
+) -> Result<(TypedExpr<'a>, TypedExpr<'a>), Fault>
     requires { length (scope_view turn.now) + max (locals_in (tree_view parts.now.loop_condition))
         (locals_in (tree_view parts.now.loop_step)) ≤ most_locals }
     ensures found { IfOk result (λ r. IsTurn (maps_of (checked_view checked.now)) (scope_view turn.now)
         (tree_view parts.now.loop_condition) (tree_view parts.now.loop_step) (type_view gathered.now)
         (expr_view r.0) (expr_view r.1)) }
-    ensures fault { IfErr result (MemoryOr (TurnFault (maps_of (checked_view checked.now)) (scope_view turn.now)
+    ensures fault { IfErr result (PlacedOr (TurnFault (maps_of (checked_view checked.now)) (scope_view turn.now)
         (tree_view parts.now.loop_condition) (tree_view parts.now.loop_step) (type_view gathered.now))) }
 {
     let condition = bool_expr(check_tree(alloc, checked, turn, &parts.loop_condition)?)?;
@@ -340,12 +345,12 @@ fn check_step<'a>(
     turn: &Scope<'_>,
     step: &'a Tree,
     gathered: &CelType,
-) -> Result<TypedExpr<'a>, Refusal>
+) -> Result<TypedExpr<'a>, Fault>
     requires { length (scope_view turn.now) + locals_in (tree_view step.now) ≤ most_locals }
     ensures found { IfOk result (λ e. IsFound (maps_of (checked_view checked.now)) (scope_view turn.now)
         (tree_view step.now) (expr_view e) × (kind (expr_view e) ≡ type_view gathered.now)) }
-    ensures fault { IfErr result (MemoryOr (StepFault (maps_of (checked_view checked.now)) (scope_view turn.now)
+    ensures fault { IfErr result (PlacedOr (StepFault (maps_of (checked_view checked.now)) (scope_view turn.now)
         (tree_view step.now) (type_view gathered.now))) }
 {
-    expr_of(check_tree(alloc, checked, turn, step)?, gathered)
+    Ok(expr_of(check_tree(alloc, checked, turn, step)?, gathered)?)
 }

@@ -1,22 +1,10 @@
 -- Trees inside a node; the code reads these in order. If they read, the number of nodes left before
 -- is theirs plus the number left after.
-use Rattle.std.specs.Prelude.{◌≡◌, ◌⊎◌, ◌+◌, ℕ, ℤ, List, [], ◌∷◌, Option, Some, None}
-use Rattle.proto_wire.specs.declared.refusal.Refusal.{Refusal}
+use Rattle.std.specs.Prelude.{◌≡◌, ◌+◌, ℕ, ℤ, List, [], ◌∷◌, Option, Some, None}
 use Rattle.cel_tree.specs.Tree.{CelTree, CelTrees, CelTreeEntries, no_tree_entries, tree_entry}
 use Rattle.cel_tree.specs.Nodes.{Parts, EntryNode, LoopNode, Node, children}
-use Rattle.cel_tree.specs.Trees.{IsTree, AreTrees, Makes, TreeFault, NodesFault, node_count, trees_count, entries_count}
+use Rattle.cel_tree.specs.Trees.{IsTree, AreTrees, Makes, node_count, trees_count, entries_count}
 use Rattle.cel_tree.specs.View.{LoopParts}
-
--- a tree has a fault, or more nodes than are left
-abbrev pub TreeFails : ℕ → ℕ → Parts → Refusal → Type 0
-TreeFails depth left parts e = TreeFault depth parts e ⊎ NodesFault depth left parts e
-
--- the first of the trees that does not read has a fault, or more nodes than are left
-abbrev pub SomeFails : ℕ → ℕ → List Parts → Refusal → Type 0
-SomeFails depth left [] e = ⊥
-SomeFails depth left (child ∷ children) e = TreeFails depth left child e
-    ⊎ ((t : CelTree) × (rest : ℕ) × IsTree depth child t × (rest + node_count t ≡ left)
-    × SomeFails depth rest children e)
 
 -- the node with its trees inside is this tree; `left` and `rest` are the numbers of nodes left
 -- before and after

@@ -3,7 +3,7 @@ use Rattle.std.specs.Prelude.{◌≡◌, ◌≤◌, ◌⊎◌, ◌+◌, ℕ, Boo
 use Rattle.std.specs.List.{AllByRecursion}
 use Rattle.attributes.specs.Request.{RequestValue}
 use Rattle.cel_value.specs.Values.{CelAnswer}
-use Rattle.stack_machine.specs.Machine.{Ends, RunsOut}
+use Rattle.machine_code.specs.Machine.{Ends, RunsOut}
 use Rattle.rbac_policy.specs.Condition.{Program, came_true}
 use Rattle.rbac_policy.specs.Filter.{Policy}
 use Rattle.rbac_policy.specs.Verdict.{sides_match}

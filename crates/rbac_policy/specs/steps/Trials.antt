@@ -2,7 +2,7 @@
 use Rattle.std.specs.Prelude.{◌≡◌, ◌≤◌, ℕ}
 use Rattle.attributes.specs.Request.{RequestValue}
 use Rattle.cel_value.specs.Values.{CelAnswer}
-use Rattle.stack_machine.specs.Machine.{Ends}
+use Rattle.machine_code.specs.Machine.{Ends}
 use Rattle.rbac_policy.specs.Condition.{Program}
 use Rattle.rbac_policy.specs.Filter.{Policy}
 use Rattle.rbac_policy.specs.Trials.{HasReason}

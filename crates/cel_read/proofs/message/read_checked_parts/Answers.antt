@@ -1,15 +1,10 @@
-use Rattle.std.proofs.Common.{ℕ, List, map}
-use Rattle.proto_wire.specs.Fields.{Wire, field_view}
 use Rattle.proto_wire.specs.Merge.{parts_view}
-use Rattle.proto_wire.specs.Messages.{IsMessage}
-use Rattle.cel_tree.specs.Message.{checked_keys, CheckedLacks, CheckedWrong}
-use Rattle.cel_tree.proofs.Readers.{read_fault}
+use Rattle.proto_wire.specs.Refusal.{MemoryOr}
+use Rattle.proto_wire.proofs.PlaceExits.{exit_unplaced}
+use Rattle.cel_tree.specs.Message.{CheckedFault}
 use Rattle.cel_read.proofs.message.read_checked_parts.Goals as goal
 
-pub returns-clause-fault : goal.returns-clause-fault
-returns-clause-fault c =
-    let parts : List (List ℕ) = parts_view c.args.parts.now in
-    let fs : List Wire = map field_view c.in_ok-fields.fields.items in
-    let message : IsMessage checked_keys parts fs = c.in_ok-fields.ensures.found in
-    read_fault checked_keys CheckedLacks CheckedWrong parts fs message c.checked_of.result
-    (rw c.deref.ensures at c.checked_of.ensures.fault)
+pub returns-in_err-read_checked_at-clause-fault : goal.returns-in_err-read_checked_at-clause-fault
+returns-in_err-read_checked_at-clause-fault c =
+    exit_unplaced (MemoryOr (CheckedFault (parts_view c.args.parts.now))) c.from_residual.result c.in_err-read_checked_at.field-0.0
+    c.from_residual.ensures.1 c.in_err-read_checked_at.ensures.fault

@@ -1,4 +1,4 @@
-use Rattle.std.proofs.Common.{◌≡◌, ◌+◌, ℕ, ℤ, w64, to_z, of_z, to_z-of_z, subst, ◌++◌, take, List, [], ◌∷◌, get_or, Bor, inl, inr, arith, sym, ap, ◌∙◌}
+use Rattle.std.proofs.Common.{◌≡◌, ◌+◌, ◌-◌, ℕ, ℤ, w64, to_z, of_z, to_z-of_z, subst, ◌++◌, take, List, [], ◌∷◌, get_or, Bor, inl, inr, arith, sym, ap, ◌∙◌}
 use Rattle.std.proofs.lemmas.List.{take_more}
 use Rattle.cel_read.specs.declared.literals.EntryNode.{EntryNode}
 use Rattle.cel_tree.specs.declared.tree.Tree.{Tree}
@@ -6,18 +6,21 @@ use Rattle.cel_tree.specs.declared.tree.TreeEntry.{TreeEntry}
 use Rattle.std.proofs.lemmas.Result.{MatchResult-weaker}
 use Rattle.std.specs.Prelude.{IfOk}
 use Rattle.proto_wire.specs.Merge.{parts_view}
-use Rattle.proto_wire.specs.Refusal.{MemoryOr}
+use Rattle.proto_wire.specs.Places.{Path, path_of}
+use Rattle.proto_wire.specs.declared.refusal.Refusal.{Refusal}
 use Rattle.cel_value.specs.Texts.{text_view}
-use Rattle.cel_tree.specs.Nodes.{Parts, NodeFault, call_node, entry_children, loop_children, singles}
+use Rattle.cel_tree.specs.Nodes.{Parts, call_node, children, entry_children, loop_children, singles}
 use Rattle.cel_tree.specs.Trees.{IsTree, node_count, trees_count, entries_count}
 use Rattle.cel_tree.specs.View.{tree_view}
 use Rattle.cel_tree.specs.steps.TreeViews.{trees_view, tree_entries_view}
 use Rattle.cel_read.specs.steps.EntryViews.{entry_nodes_view}
-use Rattle.cel_read.specs.steps.Inside.{AreTwoTrees, Inside, IsLoopBody, TreeFails, SomeFails, loop_body}
+use Rattle.cel_tree.specs.Places.{PlacedOr}
+use Rattle.cel_read.specs.Places.{SomeFaultAt, TreeFaultAt}
+use Rattle.cel_read.specs.steps.Inside.{AreTwoTrees, Inside, IsLoopBody, loop_body}
 use Rattle.cel_read.specs.steps.NodeViews.{node_view, loop_node_view}
-use Rattle.cel_read.proofs.Insides.{same_id, inside_constant, inside_ident, inside_select, inside_call, inside_map, inside_loop, tree_own, tree_found, tree_fails, trees_fail, fails_past_two, trees_push, entries_fail, entry_trees_push, trees_push_count, entries_push_count}
+use Rattle.cel_read.proofs.Insides.{same_id, inside_constant, inside_ident, inside_select, inside_call, inside_map, inside_loop, own_at, tree_found, inside_at, trees_at, past_two, past_target, first_at, trees_push, entries_at, entry_trees_push, trees_push_count, entries_push_count}
 use Rattle.cel_tree.proofs.PairFacts.{both_found, both_fault}
-use Rattle.cel_tree.proofs.Readers.{exit_memory_or, last_memory_or}
+use Rattle.cel_tree.proofs.PlacedExits.{exit_placed, last_placed}
 use Rattle.cel_read.proofs.read.+read.Goals as goal
 
 pub read_inside-returns-in-Constant-clause-found : goal.read_inside-returns-in-Constant-clause-found
@@ -82,29 +85,36 @@ lent_loop_tree-returns-clause-found t c =
     c.read_loop_trees.new.left c.args.left.now
     (rw c.in_ok-parts-2.ensures.ok c.in_ok-parts.ensures.found)
 
-pub read_tree-returns-in_err-id-clause-fault : goal.read_tree-returns-in_err-id-clause-fault
-read_tree-returns-in_err-id-clause-fault t c =
+pub read_tree-returns-in-Ok-clause-found : goal.read_tree-returns-in-Ok-clause-found
+read_tree-returns-in-Ok-clause-found t c =
     let parts : List (List ℕ) = parts_view c.args.parts.now in
-    exit_memory_or (NodeFault parts) (TreeFails c.args.depth c.args.left.now parts)
-    c.from_residual-in_err-id.result _ c.from_residual-in_err-id.ensures.1
-    c.in_err-id.ensures.fault (λ e bad. tree_own c.args.depth c.args.left.now parts e c.in_ok-require_level.ensures.found bad)
-
-pub read_tree-returns-clause-found : goal.read_tree-returns-clause-found
-read_tree-returns-clause-found t c =
-    let parts : List (List ℕ) = parts_view c.args.parts.now in
-    let id : ℤ = c.in_ok-id.id in
-    let same : to_z w64 (of_z w64 id) ≡ id = to_z-of_z c.in_ok-id.ensures.ranged in
+    let id : ℤ = c.in-Ok.id in
+    let own = rw c.in-Ok.is at c.read_own.ensures.found in
+    let same : to_z w64 (of_z w64 id) ≡ id = to_z-of_z (rw c.in-Ok.is at c.read_own.ensures.ranged) in
     MatchResult-weaker c.read_inside.result c.read_inside.ensures.found
-    (λ u h. tree_found c.args.depth parts id (node_view c.in_ok-id.node) (tree_view u) _ c.take_node.new.left c.args.left.now
-    c.in_ok-require_level.ensures.found c.in_ok-id.ensures.found c.in_ok-take_node.ensures.found (rw same at h)) (λ _ _. tt)
+    (λ u h. tree_found c.args.depth parts id (node_view c.in-Ok.node) (tree_view u) _ c.read_own.new.left c.args.left.now
+    own.0 own.2 own.1 (rw same at h)) (λ _ _. tt)
 
-pub read_tree-returns-clause-fault : goal.read_tree-returns-clause-fault
-read_tree-returns-clause-fault t c =
+pub read_tree-returns-in-Ok-clause-fault : goal.read_tree-returns-in-Ok-clause-fault
+read_tree-returns-in-Ok-clause-fault t c =
     let parts : List (List ℕ) = parts_view c.args.parts.now in
-    last_memory_or _ (TreeFails c.args.depth c.args.left.now parts)
-    c.read_inside.result c.read_inside.ensures.fault
-    (λ e bad. tree_fails c.args.depth parts _ _ _ c.args.left.now e c.in_ok-require_level.ensures.found
-    c.in_ok-id.ensures.found c.in_ok-take_node.ensures.found bad)
+    let own = rw c.in-Ok.is at c.read_own.ensures.found in
+    last_placed (SomeFaultAt (c.args.depth - 1) c.read_own.new.left (children (node_view c.in-Ok.node)))
+    (TreeFaultAt c.args.depth c.args.left.now parts) c.read_inside.result c.read_inside.ensures.fault
+    (λ path e bad. inside_at c.args.depth parts c.in-Ok.id (node_view c.in-Ok.node) c.read_own.new.left c.args.left.now path e
+    own.0 own.2 own.1 bad)
+
+pub read_tree-returns-in-Err-clause-fault : goal.read_tree-returns-in-Err-clause-fault
+read_tree-returns-in-Err-clause-fault t c =
+    let parts : List (List ℕ) = parts_view c.args.parts.now in
+    let bad = rw c.in-Err.is at c.read_own.ensures.fault in
+    elim c.fault_of_expr.ensures [
+      | inl memory ↦ inl memory
+      | inr (is, names) ↦ elim bad [
+        | inl memory ↦ inl (is ∙ memory)
+        | inr own ↦ inr (rw is (own_at c.args.depth c.args.left.now parts (path_of c.fault_of_expr.result.place) c.in-Err.refusal names own))
+      ]
+    ]
 
 pub read_trees-returns-in_err-tree-clause-fault : goal.read_trees-returns-in_err-tree-clause-fault
 read_trees-returns-in_err-tree-clause-fault t c =
@@ -112,10 +122,10 @@ read_trees-returns-in_err-tree-clause-fault t c =
     let i = c.loop-payload.payload-index in
     let d : Bor (List ℕ) = record { ref_ptr = (0, 0); now = [] } in
     let so_far = c.loop-payload.invariant in
-    exit_memory_or (TreeFails c.args.depth c.loop-payload.left ((get_or slices i d).now ∷ []))
-    (SomeFails c.args.depth c.args.left.now (singles (parts_view slices)))
-    c.from_residual-in_err-tree.result _ c.from_residual-in_err-tree.ensures.1 c.in_err-tree.ensures.fault
-    (λ e bad. trees_fail c.args.depth slices i d (trees_view c.loop-payload.trees.items) c.loop-payload.left c.args.left.now e
+    exit_placed (TreeFaultAt c.args.depth c.loop-payload.left ((get_or slices i d).now ∷ []))
+    (SomeFaultAt c.args.depth c.args.left.now (singles (parts_view slices)))
+    c.from_residual-in_err-tree.result c.in_err-tree.field-0.0 c.from_residual-in_err-tree.ensures.1 c.in_err-tree.ensures.fault
+    (λ path e bad. trees_at c.args.depth slices i d (trees_view c.loop-payload.trees.items) c.loop-payload.left c.args.left.now path e
     c.loop-payload-test.true so_far.0 so_far.1 bad)
 
 pub read_trees-loop-payload-preserved : goal.read_trees-loop-payload-preserved
@@ -139,13 +149,13 @@ read_entry_trees-returns-in_err-key-clause-fault t c =
     let so_far = c.loop-node.invariant in
     let n : EntryNode = c.node-item.result in
     let both : EntryNode → List Parts = λ m. parts_view m.key.items ∷ parts_view m.value.items ∷ [] in
-    exit_memory_or (SomeFails c.args.depth c.loop-node.left (both n))
-    (SomeFails c.args.depth c.args.left.now (entry_children (entry_nodes_view ns)))
-    c.from_residual.result _ c.from_residual.ensures.1
+    exit_placed (SomeFaultAt c.args.depth c.loop-node.left (both n))
+    (SomeFaultAt c.args.depth c.args.left.now (entry_children (entry_nodes_view ns)))
+    c.from_residual.result c.in_err-key.field-0.0 c.from_residual.ensures.1
     (rw (c.deref.ensures, c.deref-in-loop-node.ensures) at c.in_err-key.ensures.fault)
-    (λ e bad.
-    let P : EntryNode → Type 0 = λ m. SomeFails c.args.depth c.loop-node.left (both m) e in
-    entries_fail c.args.depth ns i n (tree_entries_view c.loop-node.entries.items) c.loop-node.left c.args.left.now e
+    (λ path e bad.
+    let P : EntryNode → Type 0 = λ m. SomeFaultAt c.args.depth c.loop-node.left (both m) path e in
+    entries_at c.args.depth ns i n (tree_entries_view c.loop-node.entries.items) c.loop-node.left c.args.left.now path e
     c.loop-node-test.true so_far.0 so_far.1 (subst P c.node-item.is bad))
 
 pub read_entry_trees-loop-node-preserved : goal.read_entry_trees-loop-node-preserved
@@ -184,11 +194,11 @@ read_loop_body-returns-clause-fault t c =
     let node = loop_node_view c.args.node.now in
     let two = rw (c.deref.ensures, c.deref-2.ensures) at c.in_ok-two.ensures.found in
     both_fault c.in_ok-two.two c.read_tree.result c.both.result
-    (MemoryOr (SomeFails c.args.depth c.args.left.now (loop_body node))) c.both.ensures.fault
-    (last_memory_or (TreeFails c.args.depth c.read_two.new.left node.result)
-    (SomeFails c.args.depth c.args.left.now (loop_body node)) c.read_tree.result
+    (PlacedOr (SomeFaultAt c.args.depth c.args.left.now (loop_body node))) c.both.ensures.fault
+    (last_placed (TreeFaultAt c.args.depth c.read_two.new.left node.result)
+    (SomeFaultAt c.args.depth c.args.left.now (loop_body node)) c.read_tree.result
     (rw c.deref-3.ensures at c.read_tree.ensures.fault)
-    (λ e bad. fails_past_two c.args.depth node.loop_condition node.loop_step (node.result ∷ []) _ _ _ _ e two (inl bad)))
+    (λ path e bad. past_two c.args.depth node.loop_condition node.loop_step (node.result ∷ []) _ _ _ _ path e two (inl bad)))
 
 pub read_two-returns-clause-found : goal.read_two-returns-clause-found
 read_two-returns-clause-found t c =
@@ -206,20 +216,20 @@ read_two-returns-clause-fault t c =
     let one = c.in_ok-first.ensures.found in
     let both = parts_view c.args.first.now ∷ parts_view c.args.second.now ∷ [] in
     both_fault c.in_ok-first.first c.read_tree-2.result c.both.result
-    (MemoryOr (SomeFails c.args.depth c.args.left.now both)) c.both.ensures.fault
-    (last_memory_or (TreeFails c.args.depth c.read_tree.new.left (parts_view c.args.second.now))
-    (SomeFails c.args.depth c.args.left.now both) c.read_tree-2.result c.read_tree-2.ensures.fault
-    (λ e bad. inr (_, _, one.0, one.1, inl bad)))
+    (PlacedOr (SomeFaultAt c.args.depth c.args.left.now both)) c.both.ensures.fault
+    (last_placed (TreeFaultAt c.args.depth c.read_tree.new.left (parts_view c.args.second.now))
+    (SomeFaultAt c.args.depth c.args.left.now both) c.read_tree-2.result c.read_tree-2.ensures.fault
+    (λ path e bad. inr (_, _, one.0, one.1, inl bad)))
 
 pub read_loop_trees-returns-in_err-start-2-clause-fault : goal.read_loop_trees-returns-in_err-start-2-clause-fault
 read_loop_trees-returns-in_err-start-2-clause-fault t c =
     let node = loop_node_view c.args.node.now in
     let two = rw (c.deref.ensures, c.deref-2.ensures) at c.in_ok-start.ensures.found in
-    exit_memory_or (SomeFails c.args.depth c.read_two.new.left (loop_body node))
-    (SomeFails c.args.depth c.args.left.now (loop_children node))
-    c.from_residual-in_err-start-2.result _ c.from_residual-in_err-start-2.ensures.1
+    exit_placed (SomeFaultAt c.args.depth c.read_two.new.left (loop_body node))
+    (SomeFaultAt c.args.depth c.args.left.now (loop_children node))
+    c.from_residual-in_err-start-2.result c.in_err-start-2.field-0.0 c.from_residual-in_err-start-2.ensures.1
     (rw c.in_err-start-2.ensures.fault at c.read_loop_body.ensures.fault)
-    (λ e bad. fails_past_two c.args.depth node.iter_range node.accu_init (loop_body node) _ _ _ _ e two bad)
+    (λ path e bad. past_two c.args.depth node.iter_range node.accu_init (loop_body node) _ _ _ _ path e two bad)
 
 pub read_inside-returns-in-Comprehension-clause-found : goal.read_inside-returns-in-Comprehension-clause-found
 read_inside-returns-in-Comprehension-clause-found t c =

@@ -2,7 +2,7 @@ use Rattle.std.proofs.Common.{subst}
 use Rattle.cel_compile.specs.Codes.{code_of}
 use Rattle.cel_compile.proofs.Forwards.{elaborated_code_is_forward}
 use Rattle.cel_read.proofs.GoodConstantLaws.{expr_good}
-use Rattle.stack_machine.specs.Typable.{Forward}
+use Rattle.machine_code.specs.Typable.{Forward}
 use Rattle.rbac_policy.proofs.laws.nothing_is_unverified.Goals as goal
 
 pub returns : goal.returns

@@ -23,25 +23,39 @@ returns-then-has_payload-clause-found c =
     let fs : List Wire = map field_view c.args.fields.now in
     let parts : parts_view c.deref.result.now ≡ payloads policy_field.checked_condition fs = ap parts_view c.deref.ensures ∙ c.in_ok-parts.ensures in
     let one = is_checked fs c.if-has_payload.ensures in
-    rw one (rw parts at c.read_checked_parts.ensures.found)
+    rw one (rw parts at c.read_checked_at.ensures.found)
 
 pub returns-then-has_payload-clause-fault : goal.returns-then-has_payload-clause-fault
 returns-then-has_payload-clause-fault c =
     let fs : List Wire = map field_view c.args.fields.now in
     let parts : parts_view c.deref.result.now ≡ payloads policy_field.checked_condition fs = ap parts_view c.deref.ensures ∙ c.in_ok-parts.ensures in
     let one = is_checked fs c.if-has_payload.ensures in
-    rw one (rw parts at c.read_checked_parts.ensures.fault)
+    rw one (rw parts at c.read_checked_at.ensures.fault)
 
 pub returns-clause-found : goal.returns-clause-found
 returns-clause-found c =
     let fs : List Wire = map field_view c.args.fields.now in
     let parts : parts_view c.deref-2.result.now ≡ payloads policy_field.condition fs = ap parts_view c.deref-2.ensures ∙ c.in_ok-parts-2.ensures in
     let one = is_unchecked fs c.if-has_payload.ensures in
-    rw one (rw parts at c.read_unchecked_parts.ensures.found)
+    rw one (rw parts at c.read_unchecked_at.ensures.found)
 
 pub returns-clause-fault : goal.returns-clause-fault
 returns-clause-fault c =
     let fs : List Wire = map field_view c.args.fields.now in
     let parts : parts_view c.deref-2.result.now ≡ payloads policy_field.condition fs = ap parts_view c.deref-2.ensures ∙ c.in_ok-parts-2.ensures in
     let one = is_unchecked fs c.if-has_payload.ensures in
-    rw one (rw parts at c.read_unchecked_parts.ensures.fault)
+    rw one (rw parts at c.read_unchecked_at.ensures.fault)
+
+pub returns-then-has_payload-clause-place : goal.returns-then-has_payload-clause-place
+returns-then-has_payload-clause-place c =
+    let fs : List Wire = map field_view c.args.fields.now in
+    let parts : parts_view c.deref.result.now ≡ payloads policy_field.checked_condition fs = ap parts_view c.deref.ensures ∙ c.in_ok-parts.ensures in
+    let one = is_checked fs c.if-has_payload.ensures in
+    rw one (rw parts at c.read_checked_at.ensures.place)
+
+pub returns-clause-place : goal.returns-clause-place
+returns-clause-place c =
+    let fs : List Wire = map field_view c.args.fields.now in
+    let parts : parts_view c.deref-2.result.now ≡ payloads policy_field.condition fs = ap parts_view c.deref-2.ensures ∙ c.in_ok-parts-2.ensures in
+    let one = is_unchecked fs c.if-has_payload.ensures in
+    rw one (rw parts at c.read_unchecked_at.ensures.place)
