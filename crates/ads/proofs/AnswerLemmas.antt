@@ -12,10 +12,12 @@ use Rattle.ads.specs.Views.{admitted_view}
 use Rattle.rbac_policy.specs.declared.filter.Admitted.{Admitted}
 use Rattle.ads.specs.Config.{ConfigValue, FilterValue}
 use Rattle.ads.specs.Answer.{Accepted, Answers, IsAdmitting, nack, no_memory, Refuses, nack_of, request_of, replaced}
-use Rattle.ads.specs.Client.{AreAnswered, accepted_by}
+use Rattle.ads.specs.Judgements.{AreJudged}
+use Rattle.ads.specs.declared.accepted.Draft.{Draft}
+use Rattle.ads.specs.declared.judgement.Judgement.{Judgement}
 use Rattle.ads.specs.Views.{policies_view}
 use Rattle.ads.proofs.PlaceLemmas.{replaced_nothing}
-use Rattle.ads.specs.steps.Drafts.{IsAnswered, IsNoResponse}
+use Rattle.ads.specs.steps.Drafts.{IsAnswered, IsNoResponse, draft_view}
 
 -- a fault other than out of memory
 pub not_memory : (F : Refusal → Type 0) (e : Refusal) → MemoryOr F e → e ≢ Refusal.Memory → F e
@@ -58,56 +60,79 @@ on_ok_weaker (Ok x) P Q weaker p = weaker p
 on_ok_weaker (Err e) P Q weaker p = tt
 
 -- what holds of the answers so far: whatever the other messages are answered, all are answered so
-abbrev pub GoesOn : ConfigValue → Accepted → List (List ℕ) → List ℕ → Accepted → List (List ℕ) → List ℕ → Type 0
-GoesOn c start all before now rest after =
-    (done : List ℕ) × (told : List (List ℕ)) × (after ≡ before ++ done)
-    × ((more : List ℕ) (later : List (List ℕ)) (new : Accepted) (ends : Bool)
-    → AreAnswered c now rest more later new ends
-    → AreAnswered c start all (done ++ more) (told ++ later) new ends)
+abbrev pub GoesOn : ConfigValue → Accepted → List (List ℕ) → List ℕ → List Judgement → Accepted → List (List ℕ)
+    → List ℕ → List Judgement → Type 0
+GoesOn c start all before told now rest after later =
+    (done : List ℕ) × (judged : List Judgement) × (after ≡ before ++ done) × (later ≡ told ++ judged)
+    × ((more : List Judgement) (others : List ℕ) (new : Accepted) (ends : Bool)
+    → AreJudged c now rest more others new ends
+    → AreJudged c start all (judged ++ more) (done ++ others) new ends)
 
-module _ (c : ConfigValue) (start : Accepted) (all : List (List ℕ)) (before : List ℕ) where
-  pub goes_on_from : GoesOn c start all before start all before
-  goes_on_from = ([], [], sym (append-nil before), λ more later new ends is. is)
+module _ (c : ConfigValue) (start : Accepted) (all : List (List ℕ)) (before : List ℕ) (told : List Judgement) where
+  pub goes_on_from : GoesOn c start all before told start all before told
+  goes_on_from = ([], [], sym (append-nil before), sym (append-nil told), λ more others new ends is. is)
 
-  -- one message more is answered
-  pub goes_on_more : (now next : Accepted) (message : List ℕ) (rest : List (List ℕ)) (after later : List ℕ)
-      → GoesOn c start all before now (message ∷ rest) after → IsAnswered c now message after later next
-      → GoesOn c start all before next rest later
-  goes_on_more now next message rest after later (done, told, so_far, whole)
-      (response, reply, reads, answered, frame) =
-      let bytes = frame.0 in let added = frame.3 in (
-        done ++ frame_of bytes,
-        told ++ accepted_by reply,
-        added ∙ ap (λ xs. xs ++ frame_of bytes) so_far ∙ append_assoc before done (frame_of bytes),
-        λ more last new ends is.
-            rw (append_assoc done (frame_of bytes) more, append_assoc told (accepted_by reply) last)
-            (whole (frame_of bytes ++ more) (accepted_by reply ++ last) new ends
-            (inr (response, reply, next, more, last, reads, answered, (bytes, frame.1, frame.2, refl), refl, is))),
-      )
+  -- the judgements and the answers of all messages
+  abbrev pub AllJudged : Accepted → Draft → Bool → Type 0
+  AllJudged new draft ends = (judgements : List Judgement) × (replies : List ℕ)
+      × AreJudged c start all judgements replies new ends × (draft.judgements.items ≡ told ++ judgements)
+      × (draft.replies.items ≡ before ++ replies)
 
-  -- no message is left
-  pub goes_on_end : (now : Accepted) (after : List ℕ) → GoesOn c start all before now [] after
-      → (replies : List ℕ) × (versions : List (List ℕ)) × AreAnswered c start all replies versions now false
-      × (after ≡ before ++ replies)
-  goes_on_end now after (done, told, so_far, whole) = (
-    done,
-    told,
-    rw (append-nil done, append-nil told) at (whole [] [] now false (refl, refl, refl, refl)),
-    so_far,
-  )
+  module _ (old : List (Option AdmittedValue)) (now : Draft) where
+    -- what holds of the answers so far, as the draft has them
+    abbrev SoFar : List (List ℕ) → Draft → Type 0
+    SoFar rest draft = GoesOn c start all before told (draft_view old draft) rest draft.replies.items
+        draft.judgements.items
 
-  -- a message that is no response ends the stream
-  pub goes_on_stop : (now next : Accepted) (message : List ℕ) (rest : List (List ℕ)) (after later : List ℕ)
-      → GoesOn c start all before now (message ∷ rest) after → IsNoResponse now message after later next
-      → (replies : List ℕ) × (versions : List (List ℕ)) × AreAnswered c start all replies versions next true
-      × (later ≡ before ++ replies)
-  goes_on_stop now next message rest after later (done, told, so_far, whole) (e, fault, same, stays) = (
-    done,
-    told,
-    rw (append-nil done, append-nil told) at
-        (whole [] [] next true (inl ((e, fault), refl, refl, stays, refl))),
-    same ∙ so_far,
-  )
+    -- one message more is answered
+    pub goes_on_more : (next : Draft) (message : List ℕ) (rest : List (List ℕ)) → SoFar (message ∷ rest) now
+        → IsAnswered c old message now next → SoFar rest next
+    goes_on_more next message rest (done, judged, so_far, judged_so, whole)
+        (response, reads, (reply, j, is, frame, pushed)) =
+        let bytes = frame.0 in let added = frame.3 in (
+          done ++ frame_of bytes,
+          judged ++ j ∷ [],
+          added ∙ ap (λ xs. xs ++ frame_of bytes) so_far ∙ append_assoc before done (frame_of bytes),
+          pushed ∙ ap (λ xs. xs ++ j ∷ []) judged_so ∙ append_assoc told judged (j ∷ []),
+          λ more others new ends later.
+              rw (append_assoc done (frame_of bytes) others, append_assoc judged (j ∷ []) more)
+              (whole (j ∷ more) (frame_of bytes ++ others) new ends
+              (inr (
+                response,
+                j,
+                reply,
+                draft_view old next,
+                more,
+                others,
+                reads,
+                is,
+                refl,
+                (bytes, frame.1, frame.2, refl),
+                later,
+              ))),
+        )
+
+    -- no message is left
+    pub goes_on_end : SoFar [] now → AllJudged (draft_view old now) now false
+    goes_on_end (done, judged, so_far, judged_so, whole) = (
+      judged,
+      done,
+      rw (append-nil done, append-nil judged) at (whole [] [] (draft_view old now) false (refl, refl, refl, refl)),
+      judged_so,
+      so_far,
+    )
+
+    -- a message that is no response ends the stream
+    pub goes_on_stop : (next : Draft) (message : List ℕ) (rest : List (List ℕ)) → SoFar (message ∷ rest) now
+        → IsNoResponse old message now next → AllJudged (draft_view old next) next true
+    goes_on_stop next message rest (done, judged, so_far, judged_so, whole) (e, fault, same, judged_same, stays) = (
+      judged,
+      done,
+      rw (append-nil done, append-nil judged) at
+          (whole [] [] (draft_view old next) true (inl (refl, ((e, fault), refl, refl, stays, refl)))),
+      judged_same ∙ judged_so,
+      same ∙ so_far,
+    )
 
 -- a request with an error
 pub with_error : (c : ConfigValue) (version nonce : List ℕ) (m : RequestMessage) (status told : StatusMessage)
@@ -140,10 +165,10 @@ told_yes true P Q is p = p
 told_yes false P Q is q = absurd (true≢false (sym is))
 
 -- answers behind nothing
-pub from_answers : (c : ConfigValue) (a b d : Accepted) (ms : List (List ℕ)) (before after : List ℕ) (ends : Bool)
-    → b ≡ a → before ≡ [] → ((replies : List ℕ) × (versions : List (List ℕ))
-    × AreAnswered c b ms replies versions d ends × (after ≡ before ++ replies))
-    → (versions : List (List ℕ)) × AreAnswered c a ms after versions d ends
-from_answers c a b d ms before after ends same none (replies, versions, answered, whole) =
-    let all : after ≡ replies = whole ∙ ap (λ xs. xs ++ replies) none in
-    (versions, rw (all, ← same) answered)
+pub from_judged : (c : ConfigValue) (a b d : Accepted) (ms : List (List ℕ)) (before : List ℕ) (told : List Judgement)
+    (draft : Draft) (ends : Bool) → b ≡ a → before ≡ [] → told ≡ [] → AllJudged c b ms before told d draft ends
+    → AreJudged c a ms draft.judgements.items draft.replies.items d ends
+from_judged c a b d ms before told draft ends same none empty (judgements, replies, judged, judged_so, whole) =
+    let all : draft.replies.items ≡ replies = whole ∙ ap (λ xs. xs ++ replies) none in
+    let each : draft.judgements.items ≡ judgements = judged_so ∙ ap (λ xs. xs ++ judgements) empty in
+    rw (all, each, ← same) judged

@@ -7,6 +7,7 @@ use Rattle.std.specs.declared.alloc.Global.{Global}
 use Rattle.std.specs.declared.vec.Vec.{Vec}
 use Rattle.std.proofs.lemmas.Result.{IfErr-weaker, IfOk-weaker}
 use Rattle.std.proofs.lemmas.Slice.Eq.{bytes_eq-Decides}
+use Rattle.proto_wire.specs.declared.placed.Fault.{Fault as Placed}
 use Rattle.proto_wire.specs.declared.refusal.Refusal.{Refusal}
 use Rattle.xds_wire.specs.Discovery.{AnyMessage, ExtensionMessage, ResponseMessage}
 use Rattle.xds_wire.specs.Envelope.{SomeOf}
@@ -18,14 +19,16 @@ use Rattle.rbac_policy.specs.Admitted.{filter_view, limits_view}
 use Rattle.rbac_policy.specs.declared.filter.Admitted.{Admitted}
 use Rattle.ads.specs.Config.{ConfigValue, FilterValue}
 use Rattle.ads.specs.steps.Taking.{filter_of}
-use Rattle.ads.specs.Answer.{Gives, HoldsFilter, named, IsResource, IsNamed, IsRefusedFor, TwoOf, Refuses, doubled, refused, ExtensionIsRefused, FirstOf, HoldsFilterOf, IsAdmitting, RefusesNothing, extension_type}
+use Rattle.ads.specs.Answer.{Gives, HoldsFilter, named, IsResource, IsNamed, IsRefusedFor, TwoOf, Refuses, doubled, refused, ExtensionIsRefused, FirstOf, HoldsFilterOf, IsAdmitting, RefusesNothing, extension_type, no_filter, not_admitted}
+use Rattle.ads.specs.Judgements.{FirstAt, IsRefusedAs, IsRefusedBy, Unfit, another_type, message_refused, two_extensions}
 use Rattle.ads.specs.Views.{admitted_view, policies_view}
-use Rattle.ads.specs.steps.Taking.{TakeFault, twice, bad, out_of_memory, MatchNotAccepted, RunsOut, taking, IsJudged, given_of}
+use Rattle.ads.specs.steps.Taking.{IsFirstUnfit, MatchNotAccepted, RunsOut, taking, IsJudged, given_of}
+use Rattle.ads.specs.declared.refused.Refusing.{Refusing}
 use Rattle.ads.specs.declared.judging.Judged.{Judged}
 use Rattle.ads.specs.declared.judging.Judged.TheVariants as judged
 use Rattle.ads.specs.declared.refused.NotAccepted.{NotAccepted}
 use Rattle.ads.specs.declared.refused.NotAccepted.TheVariants as not_accepted
-use Rattle.ads.proofs.Lists.{first_or, first_weaker, first_with, some_weaker, some_with}
+use Rattle.ads.proofs.Lists.{first_of_at, first_or, first_weaker, first_with, some_weaker, some_with}
 
 -- the resource is an extension of this name, of which this holds
 Holds : List ℕ → (ExtensionMessage → Type 0) → AnyMessage → Type 0
@@ -75,7 +78,7 @@ two_named n a b more (r ∷ rs) (x ∷ xs) (is, all) two =
         inl (here, some_weaker _ (IsNamed n) (λ any p. (p.0, p.1, p.2)) rs there)
     by false eq list rest some = inr (rest list)
 
-not_accepted_weaker : (P Q : Refusal → Type 0) (M N : Type 0) → ((e : Refusal) → P e → Q e) → (M → N)
+pub not_accepted_weaker : (P Q : Refusing → Type 0) (M N : Type 0) → ((e : Refusing) → P e → Q e) → (M → N)
     → (n : NotAccepted) → MatchNotAccepted P M n → MatchNotAccepted Q N n
 not_accepted_weaker P Q M N weaker less (not_accepted.Refused e) p = weaker e p
 not_accepted_weaker P Q M N weaker less not_accepted.NoMemory m = less m
@@ -88,27 +91,37 @@ module _ (c : ConfigValue) (response : ResponseMessage) (xs : List ExtensionMess
       ⊎ (SomeOf (IsRefusedFor c.limits f e) response.resources
       ⊎ (((bytes : List ℕ) × HoldsFilterOf xs f bytes) × (e ≡ Refusal.Memory)))
 
-  one_fault : (e : Refusal) (f : FilterValue) → TakeFault c.limits f xs e → OneFault e f
-  one_fault e f (twice two eq) = inl (two_named f.name two.0 two.1 two.2 response.resources xs reads two.3, eq)
-  one_fault e f (bad some) =
-      inr (inl (some_named f.name (λ x. ExtensionIsRefused c.limits f x e) response.resources xs reads some))
-  one_fault e f (out_of_memory bytes holds eq) = inr (inr ((bytes, holds), eq))
+  one_fault : (fault : Placed) (bytes : List ℕ) (f : FilterValue) → Unfit c.limits xs f fault bytes
+      → OneFault fault.refusal f
+  one_fault fault bytes f (two_extensions x y more two is none) =
+      inl (two_named f.name x y more response.resources xs reads two, is)
+  one_fault fault bytes f (another_type x one other is none) =
+      inr (inl (some_named f.name (λ x. ExtensionIsRefused c.limits f x fault.refusal) response.resources xs reads
+      (rw one (inl (no_filter other is)))))
+  one_fault fault bytes f (message_refused (x, one, holds) faulty placed) = elim faulty [
+    | inl memory ↦ inr (inr ((bytes, (x, one, holds)), memory))
+    | inr wrong ↦
+        inr (inl (some_named f.name (λ x. ExtensionIsRefused c.limits f x fault.refusal) response.resources xs reads
+        (rw one (inl (not_admitted bytes holds wrong)))))
+  ]
 
   -- the filters before the first one refuse nothing
   abbrev First : (FilterValue → Type 0) → Type 0
   First P = FirstOf (RefusesNothing c.limits xs) P c.filters
 
   -- a filter that can take nothing is doubled or refused, or memory ran out
-  refuses_by : response.type_url ≡ extension_type → (e : Refusal) → First (λ f. TakeFault c.limits f xs e)
-      → ((e ≡ Refusal.Memory) × IsAdmitting c response) ⊎ Refuses c response e
-  refuses_by type_url e first =
+  refuses_by : response.type_url ≡ extension_type → (fault : Placed) (bytes : List ℕ)
+      → First (λ f. Unfit c.limits xs f fault bytes)
+      → ((fault.refusal ≡ Refusal.Memory) × IsAdmitting c response) ⊎ Refuses c response fault.refusal
+  refuses_by type_url fault bytes first =
+      let e : Refusal = fault.refusal in
       let Q : FilterValue → Type 0 = RefusesNothing c.limits xs in
       let Two : FilterValue → Type 0 = λ f. TwoOf (IsNamed f.name) response.resources in
       let Bad : FilterValue → Type 0 = λ f. SomeOf (IsRefusedFor c.limits f e) response.resources in
       let Full : FilterValue → Type 0 = λ f. (bytes : List ℕ) × HoldsFilterOf xs f bytes in
       elim (first_or Q (λ f. Two f × (e ≡ Refusal.DuplicateResource))
       (λ f. Bad f ⊎ (Full f × (e ≡ Refusal.Memory))) c.filters
-      (first_weaker Q _ (OneFault e) (one_fault e) c.filters first)) [
+      (first_weaker Q _ (OneFault e) (one_fault fault bytes) c.filters first)) [
         | inl two ↦ let told = some_with Two _ c.filters two in inr (doubled told.0 told.1)
         | inr others ↦ elim (first_or Q Bad (λ f. Full f × (e ≡ Refusal.Memory)) c.filters others) [
           | inl is ↦ inr (refused is)
@@ -126,12 +139,28 @@ module _ (c : ConfigValue) (response : ResponseMessage) (xs : List ExtensionMess
 
   -- what the filters refuse is refused of the response
   pub refused_from_taken : response.type_url ≡ extension_type → (r : Result (Vec (Option Admitted) Global) NotAccepted)
-      → IfErr r (MatchNotAccepted (λ e. First (λ f. TakeFault c.limits f xs e))
-      (First (RefusesNothing c.limits xs)))
+      → IfErr r (MatchNotAccepted (IsFirstUnfit c.limits xs c.filters) (First (RefusesNothing c.limits xs)))
       → IfErr r (MatchNotAccepted (λ e. IsJudged c response (judged.Refused e)) (RunsOut c response))
   refused_from_taken type_url r taken =
-      IfErr-weaker r _ _ (not_accepted_weaker _ _ _ _ (λ e fault. refuses_by type_url e fault)
+      IfErr-weaker r _ _ (not_accepted_weaker _ _ _ _
+      (λ e told. refused_at e.fault e.filter e.message.now told)
       (λ first. taking xs type_url reads first)) taken
+    where
+      refused_at : (fault : Placed) (filter : Option ℕ) (bytes : List ℕ)
+          → (place : ℕ) × (filter ≡ Some place)
+          × FirstAt (RefusesNothing c.limits xs) (λ f. Unfit c.limits xs f fault bytes) place c.filters
+          → IsRefusedAs c response fault filter bytes
+      refused_at fault filter bytes (place, is, first) =
+          rw is (record { extensions = xs; type_url = type_url; reads = reads; first = first })
+
+-- a filter that is refused refuses its response
+pub refused_by : (c : ConfigValue) (response : ResponseMessage) (place : ℕ) (fault : Placed) (bytes : List ℕ)
+    → IsRefusedBy c response place fault bytes
+    → ((fault.refusal ≡ Refusal.Memory) × IsAdmitting c response) ⊎ Refuses c response fault.refusal
+refused_by c response place fault bytes is =
+    refuses_by c response is.extensions is.reads is.type_url fault bytes
+    (first_of_at (RefusesNothing c.limits is.extensions) (λ f. Unfit c.limits is.extensions f fault bytes) place c.filters
+    is.first)
 
 -- what is judged so is what the response gives, or its refusal
 pub judged_is : (c : ConfigValue) (response : ResponseMessage) (given : Result (Vec (Option Admitted) Global) NotAccepted)
@@ -150,11 +179,12 @@ runs_out c response given (Ok j) fault same = tt
 runs_out c response given (Err e) fault same = rw same at fault
 
 -- what is admitted is given to a filter of any name
-pub admitted_gives : (limits : LimitsValue) (budget : ℕ) (x : ExtensionMessage) (bytes : List ℕ)
-    → HoldsFilter x bytes → (r : Result Admitted Refusal)
+pub admitted_gives : {E : Type 0} (limits : LimitsValue) (budget : ℕ) (x : ExtensionMessage) (bytes : List ℕ)
+    → HoldsFilter x bytes → (r : Result Admitted E)
     → IfOk r (λ a. (policies : Filter CelChecked) × Admits bytes limits budget policies (filter_view a))
-    → IfOk r (λ a. limits_view a ≡ limits)
-    → IfOk r (λ a. (name : List ℕ) → Gives limits (filter_of name budget) (x ∷ []) (Some (admitted_view a)))
-admitted_gives limits budget x bytes holds (Ok a) (policies, admits) same =
-    λ name. (bytes, admitted_view a, holds, (policies, filter_view a, admits, rw same refl), refl)
-admitted_gives limits budget x bytes holds (Err e) admits same = tt
+    → IfOk r (λ a. limits_view a ≡ limits) → (a : Admitted) → r ≡ Ok a
+    → (name : List ℕ) → Gives limits (filter_of name budget) (x ∷ []) (Some (admitted_view a))
+admitted_gives limits budget x bytes holds r found same a is name =
+    let admits = rw is at found in
+    let limited : limits_view a ≡ limits = rw is at same in
+    (bytes, admitted_view a, holds, (admits.0, filter_view a, admits.1, rw limited refl), refl)

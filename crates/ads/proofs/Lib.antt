@@ -7,6 +7,7 @@ pub mod StreamLemmas
 pub mod CurrentLemmas
 pub mod TakingLemmas
 pub mod JudgedLemmas
+pub mod JudgementLemmas
 pub mod ReadingLemmas
 pub mod ServingLemmas
 pub mod AdmittedLemmas

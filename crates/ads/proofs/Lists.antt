@@ -7,6 +7,7 @@ use Rattle.std.specs.Prelude.{Result, IfErr, IsErrAnd}
 use Rattle.proto_wire.specs.declared.refusal.Refusal.{Refusal}
 use Rattle.xds_wire.specs.Envelope.{SomeOf}
 use Rattle.ads.specs.Answer.{FirstOf}
+use Rattle.ads.specs.Judgements.{FirstAt}
 pub use Rattle.xds_wire.proofs.Each.{zip_push}
 
 -- the element at a place is one of the elements
@@ -108,6 +109,22 @@ first_middle Q P R tells [] ys x behind all p = inl p
 first_middle Q P R tells (other ∷ xs) [] x behind all p = absurd all
 first_middle Q P R tells (other ∷ xs) (y ∷ ys) x behind (is, all) p =
     inr (tells other y is, first_middle Q P R tells xs ys x behind all p)
+
+-- the element after others
+pub first_place : {A B : Type 0} (Q P : A → Type 0) (R : A → B → Type 0) → ((x : A) (y : B) → R x y → Q x)
+    → (xs : List A) (ys : List B) (x : A) (behind : List A) → AllZip R xs ys → P x
+    → FirstAt Q P (length ys) (xs ++ x ∷ behind)
+first_place Q P R tells [] [] x behind all p = p
+first_place Q P R tells [] (y ∷ ys) x behind all p = absurd all
+first_place Q P R tells (other ∷ xs) [] x behind all p = absurd all
+first_place Q P R tells (other ∷ xs) (y ∷ ys) x behind (is, all) p =
+    (tells other y is, first_place Q P R tells xs ys x behind all p)
+
+-- the element at a place is the first
+pub first_of_at : {A : Type 0} (Q P : A → Type 0) (place : ℕ) (xs : List A) → FirstAt Q P place xs → FirstOf Q P xs
+first_of_at Q P place [] first = absurd first
+first_of_at Q P zero (x ∷ xs) p = inl p
+first_of_at Q P (suc place) (x ∷ xs) (q, more) = inr (q, first_of_at Q P place xs more)
 
 -- the element at a place, where those before it were read
 first_at : {A B C D : Type 0} (R : B → D → Type 0) (P : B → Type 0) (seen : A → B) (view : C → D) (xs : List A)

@@ -6,8 +6,13 @@ use Rattle.proto_wire.specs.Refusal.{MemoryOr}
 use Rattle.proto_wire.specs.declared.refusal.Refusal.{Refusal}
 use Rattle.xds_wire.specs.Discovery.{AnyMessage, ResponseMessage}
 use Rattle.ads.specs.Config.{ConfigValue}
-use Rattle.ads.specs.Answer.{FirstOf, Refuses, ResourceFault, bad_resource, extension_type, nameless, unreadable}
-use Rattle.ads.specs.steps.Taking.{ReadFault, Reads, RunsOut, reading}
+use Rattle.ads.specs.Answer.{FirstOf, ResourceFault, extension_type, nameless, unreadable}
+use Rattle.ads.specs.Judgements.{IsWrong}
+use Rattle.ads.specs.declared.judging.Judged.TheVariants as judged
+use Rattle.ads.specs.declared.refused.NotAccepted.{NotAccepted}
+use Rattle.ads.specs.declared.refused.Refusing.{Refusing}
+use Rattle.ads.specs.steps.Taking.{IsJudged, IsWhole, IsWholeRefused, MatchNotAccepted, ReadFault, Reads, RunsOut, reading}
+use Rattle.ads.proofs.JudgedLemmas.{not_accepted_weaker}
 use Rattle.ads.proofs.Lists.{first_some, first_weaker, some_weaker}
 
 -- a resource of the right type whose bytes were read, or not
@@ -36,14 +41,28 @@ right_type any (inr (ResourceFault.wrong_type other told)) = absurd cc
 right_type any (inr (unreadable same bad)) = same
 right_type any (inr (nameless extension same reads empty told)) = same
 
--- resources that do not read refuse the response
-pub resources_refuse : {T : Type 0} (c : ConfigValue) (response : ResponseMessage) (read apart : Result T Refusal)
+-- resources that do not read make the response wrong
+pub resources_wrong : {T : Type 0} (response : ResponseMessage) (read apart : Result T Refusal)
     (e : Refusal) → apart ≡ read → apart ≢ Err Refusal.Memory → apart ≡ Err e
-    → IfErr read (λ d. FirstOf Reads (λ any. ReadFault any d) response.resources) → Refuses c response e
-resources_refuse c response read apart e same other is fault =
+    → IfErr read (λ d. FirstOf Reads (λ any. ReadFault any d) response.resources) → IsWrong response e
+resources_wrong response read apart e same other is fault =
     let first : FirstOf Reads (λ any. ReadFault any e) response.resources = rw (← same, is) at fault in
-    bad_resource (some_weaker _ _ (fault_only e (λ memory. other (is ∙ ap Err memory))) response.resources
+    inr (some_weaker _ _ (fault_only e (λ memory. other (is ∙ ap Err memory))) response.resources
     (first_some Reads _ response.resources first))
+
+-- a response that is wrong is refused as wrong itself
+wrong_refused : (c : ConfigValue) (response : ResponseMessage) (e : Refusal) → IsWrong response e → (r : Refusing)
+    → IsWhole e r → IsJudged c response (judged.Refused r)
+wrong_refused c response e wrong r (same, none, empty) = rw none (rw same wrong, empty)
+
+-- at a `?` where a response is wrong
+pub exit_wrong : {T : Type 0} (c : ConfigValue) (response : ResponseMessage) (e : Refusal) (r : Result T NotAccepted)
+    → IsErrAnd r (IsWholeRefused e) → IsWrong response e
+    → IfErr r (MatchNotAccepted (λ d. IsJudged c response (judged.Refused d)) (RunsOut c response))
+exit_wrong c response e r left wrong =
+    let p = err_from_is_err_and r left in
+    rw p.1 (not_accepted_weaker (IsWhole e) (λ d. IsJudged c response (judged.Refused d)) ⊥ (RunsOut c response)
+    (wrong_refused c response e wrong) (λ no. absurd no) p.0 p.2)
 
 -- memory runs out while resources are read
 pub runs_out_reading : {T : Type 0} (c : ConfigValue) (response : ResponseMessage) (read : Result T Refusal)

@@ -7,6 +7,8 @@ use Rattle.xds_wire.proofs.OneCut.{cut_one}
 use Rattle.ads.specs.Answer.{Accepted}
 use Rattle.ads.specs.Client.{ClientValue, AreAnswered, Feeds as ClientFeeds, most_bytes, stream_after}
 use Rattle.ads.specs.Control.{ControlValue, ServesBytes}
+use Rattle.ads.specs.Judgements.{AreJudged, TellsBy}
+use Rattle.ads.specs.declared.judgement.Judgement.{Judgement}
 use Rattle.ads.specs.steps.Streams.{IsUp, rest_of}
 
 cut_of : (max : ℕ) (tail : Tail) (bytes : List ℕ) (ms : List (List ℕ)) (t : Tail) → IsUnfinished tail
@@ -115,6 +117,39 @@ fed_stream old new rest bytes next messages versions tail ends replies given is_
       },
       told,
     )
+
+-- bytes that complete no message tell nothing
+pub part_told : (old new : ClientValue) (rest bytes replies : List ℕ) (js : List Judgement) → old.stream ≡ Some rest
+    → IsBeginning most_bytes (rest ++ bytes) → replies ≡ [] → js ≡ [] → new.accepted ≡ old.accepted
+    → TellsBy old.stream old bytes replies js new
+part_told old new rest bytes replies js up begins none empty same = rw up (record {
+  messages = [];
+  tail = unfinished (rest ++ bytes);
+  ends = false;
+  cut = record { rest = rest ++ bytes; whole = refl; allowed = tt; ends = (refl, begins) };
+  judged = (empty, none, same, refl);
+})
+
+-- the judgements of the messages of the stream
+pub told_stream : (old new : ClientValue) (rest bytes : List ℕ) (next : Accepted) (messages : List (List ℕ))
+    (tail : Tail) (ends : Bool) (replies given : List ℕ) (js told : List Judgement)
+    → old.stream ≡ Some rest → Cut (rest ++ bytes) most_bytes messages tail
+    → AreJudged old.config old.accepted messages told given next ends
+    → replies ≡ given → js ≡ told → new.accepted ≡ next → TellsBy old.stream old bytes replies js new
+told_stream old new rest bytes next messages tail ends replies given js told up cut judged same each state =
+    rw up (record {
+      messages = messages;
+      tail = tail;
+      ends = ends;
+      cut = cut;
+      judged = rw (same, each, state) judged;
+    })
+
+-- nothing is told if no stream is up
+pub told_down : (stream : Option (List ℕ)) (old new : ClientValue) (bytes replies : List ℕ) (js : List Judgement)
+    → is_some stream ≡ false → js ≡ [] → TellsBy stream old bytes replies js new
+told_down None old new bytes replies js down none = none
+told_down (Some rest) old new bytes replies js down none = absurd (true≢false down)
 
 -- bytes that complete at most one frame
 pub one_known : (t : Tail) (bytes : List ℕ) (messages : List (List ℕ)) (after : Tail) → IsUnfinished t

@@ -1,12 +1,12 @@
 -- One filter more takes what the extensions give it.
-use Rattle.std.proofs.Common.{◌≡◌, inl, inr, refl, ℕ, List, [], ◌∷◌, ◌++◌, map, ap, sym, ◌∙◌, append_assoc, Option, option_map}
+use Rattle.std.proofs.Common.{◌≡◌, inl, inr, refl, ℕ, List, [], ◌∷◌, ◌++◌, length, map, ap, sym, ◌∙◌, append_assoc, Option, Some, option_map}
 use Rattle.std.specs.List.{AllZip}
 use Rattle.std.specs.Borrow.{Bor}
 use Rattle.std.specs.Map.Iter.{deref_pair}
 use Rattle.std.specs.String.{string_bytes}
 use Rattle.std.specs.declared.string.String.{String}
 use Rattle.std.specs.declared.alloc.Global.{Global}
-use Rattle.std.proofs.lemmas.List.{map-append}
+use Rattle.std.proofs.lemmas.List.{length-map, map-append}
 use Rattle.attributes.specs.Limits.{LimitsValue}
 use Rattle.xds_wire.specs.Discovery.{ExtensionMessage}
 use Rattle.ads.specs.Config.{FilterValue}
@@ -14,9 +14,11 @@ use Rattle.ads.specs.Views.{admitted_view}
 use Rattle.rbac_policy.specs.declared.filter.Admitted.{Admitted}
 use Rattle.ads.specs.Answer.{AdmittedValue, FirstOf, Gives, RefusesNothing, named}
 use Rattle.ads.specs.Views.{entries_view, entry_view}
-use Rattle.ads.specs.steps.Taking.{filter_of}
+use Rattle.ads.specs.Judgements.{Unfit}
+use Rattle.ads.specs.steps.Taking.{IsFirstUnfit, filter_of}
+use Rattle.ads.specs.declared.refused.Refusing.{Refusing}
 use Rattle.ads.specs.Views.{policies_view}
-use Rattle.ads.proofs.Lists.{zip_push, first_middle}
+use Rattle.ads.proofs.Lists.{first_middle, first_place, zip_push}
 
 Entry : Type 0
 Entry = String Global × ℕ
@@ -54,6 +56,27 @@ module _ (limits : LimitsValue) (xs : List ExtensionMessage) (yielded : List (Bo
       rw seen (first_middle (RefusesNothing limits xs) P (λ f. Gives limits f (named f.name xs))
       (refuses_nothing limits xs) (entries_view (map deref_pair yielded)) (policies_view given)
       (filter_of (string_bytes name.now) budget.now) (entries_view after) so_far here)
+
+  -- the filter is the first that refuses, and is told
+  pub refuses_here : (given : List (Option Admitted)) (count : ℕ) (e told : Refusing)
+      → AllZip (λ f. Gives limits f (named f.name xs)) (entries_view (map deref_pair yielded)) (policies_view given)
+      → count ≡ length given → told.fault ≡ e.fault → told.filter ≡ Some count → told.message ≡ e.message
+      → Unfit limits xs (filter_of text budget.now) e.fault e.message.now
+      → IsFirstUnfit limits xs (entries_view entries) told
+  refuses_here given count e told so_far counted fault filter message unfit =
+      let seen : entries_view entries ≡ entries_view (map deref_pair yielded)
+      ++ filter_of (string_bytes name.now) budget.now ∷ entries_view after =
+      ap entries_view (sym whole ∙ ap (λ ys. map deref_pair yielded ++ ys) next)
+      ∙ map-append entry_view (map deref_pair yielded) ((name.now, budget.now) ∷ after) in
+      let here : Unfit limits xs (filter_of (string_bytes name.now) budget.now) e.fault e.message.now =
+      rw same at unfit in
+      let place : count ≡ length (policies_view given) = counted ∙ sym (length-map given (option_map admitted_view)) in (
+        count,
+        filter,
+        rw (fault, message, seen, place) (first_place (RefusesNothing limits xs) (λ f. Unfit limits xs f e.fault e.message.now)
+            (λ f. Gives limits f (named f.name xs)) (refuses_nothing limits xs) (entries_view (map deref_pair yielded))
+            (policies_view given) (filter_of (string_bytes name.now) budget.now) (entries_view after) so_far here),
+      )
 
   -- the filter takes what the extensions give
   pub take_more : (given now : List (Option Admitted)) (o : Option Admitted)

@@ -1,6 +1,7 @@
 pub mod Config
 pub mod Answer
 pub mod Client
+pub mod Judgements
 pub mod Control
 pub mod Schedules
 pub mod Serve

@@ -9,6 +9,7 @@ ghost use Rattle.ads.specs.Ends.{state_view};
 ghost use Rattle.ads.specs.steps.Drafts.{draft_view, Covers};
 
 use crate::config::Config;
+use crate::judgement::Judgement;
 use indexmap::IndexMap;
 use rbac_policy::Admitted;
 use std::alloc::{AllocError, Global};
@@ -34,17 +35,19 @@ impl State {
         })
     }
 
-    /// Replaces the old version, policies and generation by the draft's, and returns its replies. It takes no memory.
-    pub(crate) fn commit(&mut self, draft: Draft) -> Vec<u8>
+    /// Replaces the old version, policies and generation by the draft's, and returns its replies and judgements. It
+    /// takes no memory.
+    pub(crate) fn commit(&mut self, draft: Draft) -> (Vec<u8>, Vec<Judgement>)
         requires { Covers (vec_len self.old.policies) draft.given.items }
         ensures state { state_view self.new ≡ draft_view (policies_view self.old.policies.items) draft }
         ensures length { vec_len self.new.policies ≡ vec_len self.old.policies }
-        ensures replies { result.items ≡ draft.replies.items }
+        ensures replies { result.0.items ≡ draft.replies.items }
+        ensures judgements { result.1.items ≡ draft.judgements.items }
     {
         place(&mut self.policies, draft.given);
         self.version = draft.version;
         self.generation = draft.generation;
-        draft.replies
+        (draft.replies, draft.judgements)
     }
 }
 
@@ -63,13 +66,14 @@ fn no_policies(
     Ok(policies)
 }
 
-/// The changes to the state, and the replies, while bytes are answered.
+/// The changes to the state, the replies and the judgements, while bytes are answered.
 #[derive(Debug, Drop)]
 pub(crate) struct Draft {
     pub(crate) version: String,
     pub(crate) given: Vec<Option<Admitted>>,
     pub(crate) generation: u64,
     pub(crate) replies: Vec<u8>,
+    pub(crate) judgements: Vec<Judgement>,
 }
 
 impl Draft {
@@ -79,12 +83,14 @@ impl Draft {
             draft_view (policies_view state.now.policies.items) draft ≡ state_view state.now) }
         ensures given { IfOk result (λ draft. draft.given.items ≡ []) }
         ensures replies { IfOk result (λ draft. draft.replies.items ≡ []) }
+        ensures judgements { IfOk result (λ draft. draft.judgements.items ≡ []) }
     {
         Ok(Draft {
             version: state.version.clone()?,
             given: Vec::new(alloc),
             generation: state.generation,
             replies: Vec::new(alloc),
+            judgements: Vec::new(alloc),
         })
     }
 
@@ -97,6 +103,7 @@ impl Draft {
             ≡ replaced (replaced old (policies_view self.old.given.items)) (policies_view given.items) }
         ensures length { vec_len self.new.given ≡ vec_len given }
         ensures replies { self.new.replies.items ≡ self.old.replies.items }
+        ensures judgements { self.new.judgements.items ≡ self.old.judgements.items }
     {
         self.version = version;
         self.generation = self.generation.saturating_add(1);

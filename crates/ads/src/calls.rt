@@ -18,6 +18,7 @@ use std::alloc::{AllocError, Global};
 impl Client {
     ghost use Rattle.ads.specs.Client.{CompletesOne, Feeds, WasAdmitted, WasAdmittedAs, new_client, policies_of, stream_down, stream_up};
     ghost use Rattle.ads.specs.Ends.{client_view};
+    ghost use Rattle.ads.specs.Judgements.{TellsBy};
     /// A client that has accepted nothing, and whose stream is down. The only error is out of memory.
     pub fn new(alloc: Global, config: &Config) -> Result<Client, AllocError>
         ensures { IfOk result (λ c. client_view c ≡ new_client config.now) }
@@ -48,12 +49,15 @@ impl Client {
 
     /// The stream delivers bytes. Each response that they complete is answered, in order: it is accepted, or refused
     /// with the number of a refusal. That is `WrongType`, `BadWire`, `BadText`, `Missing`, `DuplicateResource` or one
-    /// of `rbac_policy::admit`, which include `Memory`. A broken frame or a message that is not a response ends the
-    /// stream. Without a stream nothing is done, which takes no memory. In these cases the result is `broken`. The only
-    /// error is out of memory outside of an admission; after it all is as before the call.
+    /// of `rbac_policy::admit`, which include `Memory`. Its judgement says which filter is refused, and which part of its
+    /// message has the fault. A broken frame or a message that is not a response ends the stream. Without a stream
+    /// nothing is done, which takes no memory. In these cases the result is `broken`. The only error is out of memory
+    /// outside of an admission; after it all is as before the call.
     pub fn feed(&mut self, bytes: &[u8]) -> Result<Fed, AllocError>
         ensures found { IfOk result (λ fed. (versions : List (List ℕ))
             × Feeds (client_view self.old) bytes.now fed.replies.items fed.broken versions (client_view self.new)) }
+        ensures judged { IfOk result (λ fed. TellsBy (client_view self.old).stream (client_view self.old) bytes.now
+            fed.replies.items fed.judgements.items (client_view self.new)) }
         ensures config { (client_view self.new).config ≡ (client_view self.old).config }
         ensures down { (client_view self.old).stream ≡ None → IsOk result }
         ensures fault { OnErr result (client_view self.new ≡ client_view self.old) }
@@ -61,20 +65,26 @@ impl Client {
         let Some(stream) = &mut self.stream else {
             return Ok(Fed {
                 replies: Vec::new(self.alloc),
+                judgements: Vec::new(self.alloc),
                 broken: true,
             });
         };
         if stream.keeps(bytes)? {
             return Ok(Fed {
                 replies: Vec::new(self.alloc),
+                judgements: Vec::new(self.alloc),
                 broken: false,
             });
         }
         let (draft, stream) = answered(self.alloc, &self.config, &self.accepted, stream, bytes)?;
         let broken = stream.is_none();
         self.stream = stream;
-        let replies = self.accepted.commit(draft);
-        Ok(Fed { replies, broken })
+        let (replies, judgements) = self.accepted.commit(draft);
+        Ok(Fed {
+            replies,
+            judgements,
+            broken,
+        })
     }
 
     /// How many bytes of the stream complete at most one message, at least 1. If no more are fed at once, at most one

@@ -7,6 +7,7 @@ ghost use Rattle.ads.specs.Views.{policies_view};
 
 use crate::accepted::State;
 use crate::config::Config;
+use crate::judgement::Judgement;
 use crate::stream::Stream;
 use std::alloc::Global;
 
@@ -15,6 +16,8 @@ use std::alloc::Global;
 pub struct Fed {
     /// The bytes to send, in whole frames.
     pub replies: Vec<u8>,
+    /// The judgements of the responses that were complete, in order.
+    pub judgements: Vec<Judgement>,
     /// Whether no stream is up after the call.
     pub broken: bool,
 }

@@ -2,11 +2,19 @@
 
 ghost use Rattle.std.specs.Prelude.{◌≡◌, ℕ, None, List, IfOk, IsOk, OnErr};
 
-use crate::client::Fed;
 use crate::serving::Served;
 use crate::snapshot::Snapshot;
 use crate::stream::{Stream, served_by};
 use std::alloc::{AllocError, Global};
+
+/// The result of a call with bytes of a client's stream.
+#[derive(Debug, Drop)]
+pub struct Replied {
+    /// The bytes to send, in whole frames.
+    pub replies: Vec<u8>,
+    /// Whether no stream is up after the call.
+    pub broken: bool,
+}
 
 /// A control plane that serves snapshots to one client in order, the next after each answer (xDS, state of the world).
 /// It has no socket: bytes of the stream go in, and bytes to send come out.
@@ -43,7 +51,7 @@ impl Control {
     /// frame and at a message that is not a request. It also ends at a response that is too long, or whose number does
     /// not fit in 64 bits. From then on it is `broken`, and nothing is sent until it is `lost`, which takes no memory.
     /// The only error is out of memory; after it all is as before the call.
-    pub fn feed(&mut self, bytes: &[u8]) -> Result<Fed, AllocError>
+    pub fn feed(&mut self, bytes: &[u8]) -> Result<Replied, AllocError>
         ensures found { IfOk result (λ fed. (numbers : List ℕ)
             × ServesBytes (control_view self.old) bytes.now fed.replies.items fed.broken numbers
             (control_view self.new)) }
@@ -51,13 +59,13 @@ impl Control {
         ensures fault { OnErr result (control_view self.new ≡ control_view self.old) }
     {
         let Some(stream) = &mut self.stream else {
-            return Ok(Fed {
+            return Ok(Replied {
                 replies: Vec::new(self.alloc),
                 broken: true,
             });
         };
         if stream.keeps(bytes)? {
-            return Ok(Fed {
+            return Ok(Replied {
                 replies: Vec::new(self.alloc),
                 broken: false,
             });
@@ -72,7 +80,7 @@ impl Control {
         let broken = stream.is_none();
         self.stream = stream;
         self.served = served;
-        Ok(Fed { replies, broken })
+        Ok(Replied { replies, broken })
     }
 
     /// The stream is lost, with its unfinished bytes, and the next one begins. What was acknowledged stays, and the

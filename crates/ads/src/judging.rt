@@ -1,23 +1,25 @@
 //! The judging of a response, as a function of the response alone: the policies that it gives each filter, or the
 //! refusal.
 
-ghost use Rattle.std.specs.Prelude.{◌≡◌, ◌≢◌, ◌⊎◌, ℕ, Some, Err, [], ◌∷◌, List, map, IfOk, IfErr, OnOk, OnErr, MatchOption};
+ghost use Rattle.std.specs.Prelude.{◌≡◌, ◌≢◌, ℕ, Some, Err, [], ◌∷◌, List, map, IfOk, IfErr, OnOk, OnErr, MatchOption};
 ghost use Rattle.std.specs.Option.{option_map};
 ghost use Rattle.std.specs.List.{AllZip};
-ghost use Rattle.proto_wire.specs.declared.refusal.Refusal.TheVariants.{DuplicateResource, Memory, Missing, WrongType};
+ghost use Rattle.proto_wire.specs.declared.refusal.Refusal.TheVariants.{DuplicateResource, Missing, WrongType};
+ghost use Rattle.xds_wire.specs.Discovery.{ExtensionMessage};
 ghost use Rattle.xds_wire.specs.View.{any_view, extension_view, response_view};
-ghost use Rattle.ads.specs.Answer.{IsResource, HoldsFilter, ExtensionIsRefused, FirstOf, Gives, RefusesNothing, named, extension_type};
+ghost use Rattle.ads.specs.Answer.{IsResource, HoldsFilter, FirstOf, Gives, RefusesNothing, named, extension_type};
+ghost use Rattle.ads.specs.Judgements.{Unfit};
 ghost use Rattle.ads.specs.Views.{admitted_view, entries_view, policies_view};
 ghost use Rattle.ads.specs.declared.judging.Judged.TheVariants.{Given, Refused};
 ghost use Rattle.ads.specs.declared.refused.NotAccepted.TheVariants.{NoMemory};
-ghost use Rattle.ads.specs.steps.Taking.{HoldsSome, IsDoubled, MatchNotAccepted, ReadFault, Reads, RunsOut, TakeFault, IsJudged, filter_of, given_of};
+ghost use Rattle.ads.specs.steps.Taking.{IsDoubled, IsFirstUnfit, IsJudged, MatchNotAccepted, ReadFault, Reads, RunsOut, filter_of, given_of};
 
 use crate::config::Config;
-use crate::refused::{NotAccepted, memory_apart};
+use crate::refused::{NotAccepted, Refusing, memory_apart};
 use attributes::Limits;
 use indexmap::IndexMap;
 use proto_wire::Refusal;
-use rbac_policy::{Admitted, admit};
+use rbac_policy::{Admitted, admit_at};
 use std::alloc::{AllocError, Global};
 use xds_wire::{Any, DiscoveryResponse, TypedExtensionConfig, read_extension};
 
@@ -31,19 +33,19 @@ pub(crate) const FILTER_TYPE: &str =
 
 /// The judgement of a response.
 #[derive(Debug, Drop)]
-pub(crate) enum Judged {
+pub(crate) enum Judged<'a> {
     /// The policies that it gives each filter, in configured order.
     Given(Vec<Option<Admitted>>),
-    /// Why it is refused.
-    Refused(Refusal),
+    /// Why it is refused, and where.
+    Refused(Refusing<'a>),
 }
 
 /// Judges a response. The error means out of memory outside of an admission, where nothing that was read is refused.
-pub(crate) fn judge(
+pub(crate) fn judge<'a>(
     alloc: Global,
     config: &Config,
-    response: &DiscoveryResponse<'_>,
-) -> Result<Judged, AllocError>
+    response: &DiscoveryResponse<'a>,
+) -> Result<Judged<'a>, AllocError>
     ensures found { IfOk result (IsJudged config.now (response_view response.now)) }
     ensures fault { OnErr result (RunsOut config.now (response_view response.now)) }
 {
@@ -52,23 +54,25 @@ pub(crate) fn judge(
 
 /// The judgement, with exactly this refusal. The error is out of memory exactly if memory ran out outside of an
 /// admission.
-fn judgement(given: Result<Vec<Option<Admitted>>, NotAccepted>) -> Result<Judged, AllocError>
-    ensures found { IfOk result (λ judged. given ≡ given_of judged) }
-    ensures fault { OnErr result (given ≡ Err NoMemory) }
+fn judgement<'a>(
+    given: Result<Vec<Option<Admitted>>, NotAccepted<'a>>,
+) -> Result<Judged<'a>, AllocError>
+    ensures found { IfOk result (λ judged. given.entry ≡ given_of judged) }
+    ensures fault { OnErr result (given.entry ≡ Err NoMemory) }
 {
     match given {
         Ok(given) => Ok(Judged::Given(given)),
-        Err(NotAccepted::Refused(refusal)) => Ok(Judged::Refused(refusal)),
+        Err(NotAccepted::Refused(refusing)) => Ok(Judged::Refused(refusing)),
         Err(NotAccepted::NoMemory) => Err(AllocError),
     }
 }
 
 /// The policies that a response gives each filter.
-fn given_by(
+fn given_by<'a>(
     alloc: Global,
     config: &Config,
-    response: &DiscoveryResponse<'_>,
-) -> Result<Vec<Option<Admitted>>, NotAccepted>
+    response: &DiscoveryResponse<'a>,
+) -> Result<Vec<Option<Admitted>>, NotAccepted<'a>>
     ensures found { IfOk result (λ given. IsJudged config.now (response_view response.now) (Given given)) }
     ensures fault { IfErr result (MatchNotAccepted
         (λ e. IsJudged config.now (response_view response.now) (Refused e))
@@ -129,42 +133,43 @@ fn require_name(extension: &TypedExtensionConfig<'_>) -> Result<(), Refusal>
 }
 
 /// The policies that the extensions give each of the filters.
-fn take_all(
+fn take_all<'a>(
     alloc: Global,
     limits: &Limits,
     filters: &IndexMap<String, u64>,
-    extensions: &[TypedExtensionConfig<'_>],
-) -> Result<Vec<Option<Admitted>>, NotAccepted>
+    extensions: &[TypedExtensionConfig<'a>],
+) -> Result<Vec<Option<Admitted>>, NotAccepted<'a>>
     ensures found { IfOk result (λ given. AllZip
         (λ f. Gives limits.now f (named f.name (map extension_view extensions.now)))
         (entries_view filters.now.entries) (policies_view given.items)) }
     ensures fault { let xs = map extension_view extensions.now in
         IfErr result (MatchNotAccepted
-        (λ e. FirstOf (RefusesNothing limits.now xs) (λ f. TakeFault limits.now f xs e)
-        (entries_view filters.now.entries))
+        (IsFirstUnfit limits.now xs (entries_view filters.now.entries))
         (FirstOf (RefusesNothing limits.now xs) (RefusesNothing limits.now xs)
         (entries_view filters.now.entries))) }
 {
     let mut given = Vec::new(alloc);
     for (name, budget) in filters {
-        let policies = take(alloc, limits, name, *budget, extensions)?;
-        given.push(policies)?;
+        match take(alloc, limits, name, *budget, extensions) {
+            Ok(policies) => given.push(policies)?,
+            Err(refusing) => return Err(NotAccepted::Refused(refusing.at(given.len()))),
+        }
     }
     Ok(given)
 }
 
 /// The policies that the extensions give the filter of this name.
-fn take(
+fn take<'a>(
     alloc: Global,
     limits: &Limits,
     name: &str,
     budget: u64,
-    extensions: &[TypedExtensionConfig<'_>],
-) -> Result<Option<Admitted>, Refusal>
+    extensions: &[TypedExtensionConfig<'a>],
+) -> Result<Option<Admitted>, Refusing<'a>>
     ensures found { IfOk result (λ given. Gives limits.now (filter_of name.now budget)
         (named name.now (map extension_view extensions.now)) (option_map admitted_view given)) }
-    ensures fault { IfErr result
-        (TakeFault limits.now (filter_of name.now budget) (map extension_view extensions.now)) }
+    ensures fault { IfErr result (λ e. Unfit limits.now (map extension_view extensions.now)
+        (filter_of name.now budget) e.fault e.message.now) }
 {
     match find(extensions, name)? {
         None => Ok(None),
@@ -199,20 +204,27 @@ fn find<'a>(
 }
 
 /// Admits the filter that the extension holds.
-fn admit_extension(
+fn admit_extension<'a>(
     alloc: Global,
     limits: &Limits,
     budget: u64,
-    extension: &TypedExtensionConfig<'_>,
-) -> Result<Admitted, Refusal>
+    extension: &TypedExtensionConfig<'a>,
+) -> Result<Admitted, Refusing<'a>>
     ensures found { IfOk result (λ a. (name : List ℕ)
         → Gives limits.now (filter_of name budget) (extension_view extension.now ∷ []) (Some (admitted_view a))) }
-    ensures fault { IfErr result (λ e. ((e ≡ Memory) × HoldsSome (extension_view extension.now))
-        ⊎ ((name : List ℕ)
-        → ExtensionIsRefused limits.now (filter_of name budget) (extension_view extension.now) e)) }
+    ensures fault { IfErr result (λ e. (name : List ℕ) (xs : List ExtensionMessage)
+        → named name xs ≡ extension_view extension.now ∷ []
+        → Unfit limits.now xs (filter_of name budget) e.fault e.message.now) }
 {
-    let bytes = filter_bytes(extension)?;
-    admit(alloc, bytes, limits, budget)
+    let message = filter_bytes(extension)?;
+    match admit_at(alloc, message, limits, budget) {
+        Ok(admitted) => Ok(admitted),
+        Err(fault) => Err(Refusing {
+            fault,
+            filter: None,
+            message,
+        }),
+    }
 }
 
 /// The bytes of the filter's message that the extension holds.

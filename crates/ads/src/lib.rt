@@ -8,6 +8,7 @@ mod calls;
 mod client;
 mod config;
 mod control;
+mod judgement;
 mod judging;
 pub mod laws;
 mod refused;
@@ -19,5 +20,6 @@ mod stream;
 
 pub use client::{Client, Fed};
 pub use config::{Config, ConfigFault, Filter};
-pub use control::Control;
+pub use control::{Control, Replied};
+pub use judgement::{Judgement, Outcome, Refused};
 pub use snapshot::{Resource, Snapshot};

@@ -1,41 +1,80 @@
-//! Out of memory, apart from all other refusals.
+//! Why a response is not accepted: it is refused, or memory ran out.
 
-ghost use Rattle.std.specs.Prelude.{◌≡◌, ◌≢◌, Err, IfOk, OnErr};
+ghost use Rattle.std.specs.Prelude.{◌≡◌, ◌≢◌, Err, IfOk, OnErr, Some};
 ghost use Rattle.proto_wire.specs.declared.refusal.Refusal.TheVariants.{Memory};
 ghost use Rattle.ads.specs.declared.refused.NotAccepted.TheVariants.{NoMemory, Refused};
+ghost use Rattle.ads.specs.steps.Taking.{IsWhole, IsWholeRefused};
 
-use proto_wire::Refusal;
+use proto_wire::{Fault, Refusal};
 use std::alloc::{AllocError, AllocFailed};
+
+/// Why a response is refused, and where.
+#[derive(Clone, Copy, Debug)]
+pub(crate) struct Refusing<'a> {
+    /// The refusal, and the part of the filter's message that has the fault.
+    pub(crate) fault: Fault,
+    /// The filter that is refused.
+    pub(crate) filter: Option<usize>,
+    /// The bytes of the filter's message, if it is not admitted.
+    pub(crate) message: &'a [u8],
+}
+
+impl<'a> Refusing<'a> {
+    /// The same of the filter at this place.
+    pub(crate) fn at(self, place: usize) -> Refusing<'a>
+        ensures fault { result.fault ≡ self.entry.fault }
+        ensures filter { result.filter ≡ Some place }
+        ensures message { result.message ≡ self.entry.message }
+    {
+        Refusing {
+            fault: self.fault,
+            filter: Some(place),
+            message: self.message,
+        }
+    }
+}
+
+impl<'a> From<Refusal> for Refusing<'a> {
+    ghost from_gives = { λ refusal e. IsWhole refusal e };
+
+    fn from(refusal: Refusal) -> Refusing<'a> {
+        Refusing {
+            fault: Fault::from(refusal),
+            filter: None,
+            message: &[],
+        }
+    }
+}
 
 /// Why a response is not accepted.
 #[derive(Clone, Copy, Debug)]
-pub(crate) enum NotAccepted {
+pub(crate) enum NotAccepted<'a> {
     /// It is refused, for this reason.
-    Refused(Refusal),
+    Refused(Refusing<'a>),
     /// Memory ran out outside of an admission.
     NoMemory,
 }
 
-impl From<Refusal> for NotAccepted {
-    ghost from_gives = { λ refusal e. e ≡ Refused refusal };
+impl<'a> From<Refusal> for NotAccepted<'a> {
+    ghost from_gives = { λ refusal e. IsWholeRefused refusal e };
 
-    fn from(refusal: Refusal) -> NotAccepted {
-        NotAccepted::Refused(refusal)
+    fn from(refusal: Refusal) -> NotAccepted<'a> {
+        NotAccepted::Refused(Refusing::from(refusal))
     }
 }
 
-impl From<AllocError> for NotAccepted {
+impl<'a> From<AllocError> for NotAccepted<'a> {
     ghost from_gives = { λ _ e. e ≡ NoMemory };
 
-    fn from(_error: AllocError) -> NotAccepted {
+    fn from(_error: AllocError) -> NotAccepted<'a> {
         NotAccepted::NoMemory
     }
 }
 
-impl<T: Drop> From<AllocFailed<T>> for NotAccepted {
+impl<'a, T: Drop> From<AllocFailed<T>> for NotAccepted<'a> {
     ghost from_gives = { λ _ e. e ≡ NoMemory };
 
-    fn from(_error: AllocFailed<T>) -> NotAccepted {
+    fn from(_error: AllocFailed<T>) -> NotAccepted<'a> {
         NotAccepted::NoMemory
     }
 }

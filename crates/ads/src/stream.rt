@@ -3,7 +3,8 @@
 ghost use Rattle.std.specs.Prelude.{◌≡◌, ◌<◌, ◌≤◌, ◌++◌, ℕ, false, [], List, Bool, length, IfOk, OnErr, MatchBool};
 ghost use Rattle.xds_wire.specs.Frames.{Cut, IsBeginning, Tail};
 ghost use Rattle.xds_wire.specs.Stream as wire;
-ghost use Rattle.ads.specs.Client.{AreAnswered, most_bytes, stream_after};
+ghost use Rattle.ads.specs.Client.{most_bytes, stream_after};
+ghost use Rattle.ads.specs.Judgements.{AreJudged};
 ghost use Rattle.ads.specs.Views.{policies_view};
 ghost use Rattle.ads.specs.steps.Streams.{StreamIsBroken};
 ghost use Rattle.ads.specs.Ends.{state_view};
@@ -73,7 +74,7 @@ impl Stream {
     }
 }
 
-/// Answers the bytes: the draft with the accepted state and the replies, and the stream after them.
+/// Answers the bytes: the draft with the accepted state, the replies and the judgements, and the stream after them.
 pub(crate) fn answered(
     alloc: Global,
     config: &Config,
@@ -81,9 +82,9 @@ pub(crate) fn answered(
     stream: &Stream,
     bytes: &[u8],
 ) -> Result<(Draft, Option<Stream>), AllocError>
-    ensures answered { IfOk result (λ r. (messages versions : List (List ℕ)) × (tail : Tail) × (ends : Bool)
+    ensures answered { IfOk result (λ r. (messages : List (List ℕ)) × (tail : Tail) × (ends : Bool)
         × Cut (stream.now ++ bytes.now) most_bytes messages tail
-        × AreAnswered config.now (state_view accepted.now) messages r.0.replies.items versions
+        × AreJudged config.now (state_view accepted.now) messages r.0.judgements.items r.0.replies.items
         (draft_view (policies_view accepted.now.policies.items) r.0) ends
         × (r.1 ≡ stream_after ends tail)) }
     ensures covers { IfOk result (λ r. Covers (length config.now.filters) r.0.given.items) }

@@ -1,11 +1,12 @@
 //! The words of a control plane.
-ghost use Rattle.std.specs.Prelude.{◌≡◌, ◌↔◌, ℕ, IfErr, IfNone, IfOk, IfSome, IsTrue, codes, map, option_map, string_bytes};
-ghost use Rattle.clap.specs.Words.{all_of, found_of, rows_of};
-ghost use Rattle.command_line.specs.Words.{AreFilesOf, AreFilesOfRows, AreGrouped, IsJobOfRows, subcommand_name};
+ghost use Rattle.std.specs.Prelude.{◌↔◌, IfNone, IfOk, IfSome, IsTrue, map, option_map, string_bytes};
+ghost use Rattle.clap.specs.Words.{found_of, rows_of};
+ghost use Rattle.command_line.specs.Words.{AreFilesOf, AreFilesOfRows, AreGrouped, IsJobOfRows};
+ghost use Rattle.command_line.specs.declared.control_words.ControlWords.{ControlWords};
 ghost use Rattle.command_line.specs.declared.control_words.SnapshotFiles.{SnapshotFiles};
-ghost use Rattle.command_line.specs.declared.words.Job.{Job};
+ghost use Rattle.command_line.specs.declared.words.Job.TheVariants.{Control};
 
-use crate::words::{Job, text_of};
+use crate::texts::{text_of, texts_of};
 use clap::ArgMatches;
 use std::alloc::{AllocError, Global};
 
@@ -37,15 +38,15 @@ pub enum SnapshotFiles {
     },
 }
 
-/// The job of the subcommand `control`, if its values are present and allowed.
-pub(crate) fn control_job(
+/// The words of the subcommand `control`, if its values are present and allowed.
+pub(crate) fn control_words(
     alloc: Global,
     matches: &ArgMatches<'_>,
-) -> Result<Option<Job>, AllocError>
-    ensures job { IfOk result (λ job. IfSome job (λ job. (subcommand_name job ≡ codes "control")
-        × IsJobOfRows (rows_of (found_of matches.now)) job)) }
-    ensures none { IfOk result (λ job. IfNone job ((other : Job) → subcommand_name other ≡ codes "control"
-        → ¬ (IsJobOfRows (rows_of (found_of matches.now)) other))) }
+) -> Result<Option<ControlWords>, AllocError>
+    ensures words { IfOk result (λ found. IfSome found (λ words.
+        IsJobOfRows (rows_of (found_of matches.now)) (Control words))) }
+    ensures none { IfOk result (λ found. IfNone found ((other : ControlWords)
+        → ¬ (IsJobOfRows (rows_of (found_of matches.now)) (Control other)))) }
 {
     let Some(listen) = text_of(alloc, matches, "listen")? else {
         return Ok(None);
@@ -54,11 +55,11 @@ pub(crate) fn control_job(
         return Ok(None);
     };
     let log_path = text_of(alloc, matches, "log")?;
-    Ok(Some(Job::Control(ControlWords {
+    Ok(Some(ControlWords {
         listen,
         snapshots,
         log: log_path,
-    })))
+    }))
 }
 
 /// The files of the snapshots, if the words name them in one of the two ways.
@@ -111,31 +112,6 @@ fn are_grouped(names: usize, files: usize) -> bool
         return false;
     }
     files % names == 0
-}
-
-/// The values of this argument, if it has any.
-fn texts_of(
-    alloc: Global,
-    matches: &ArgMatches<'_>,
-    name: &str,
-) -> Result<Option<Vec<String>>, AllocError>
-    ensures { IfOk result (λ texts. all_of name.now (rows_of (found_of matches.now))
-        ≡ option_map (λ v. map string_bytes v.items) texts) }
-{
-    match matches.get_strs(name) {
-        Some(texts) => Ok(Some(copy_texts(alloc, texts)?)),
-        None => Ok(None),
-    }
-}
-
-fn copy_texts(alloc: Global, texts: &[&str]) -> Result<Vec<String>, AllocError>
-    ensures { IfOk result (λ v. map string_bytes v.items ≡ map (λ text. text.now) texts.now) }
-{
-    let mut copies = Vec::new(alloc);
-    for text in texts {
-        copies.push(String::from_str(alloc, text)?)?;
-    }
-    Ok(copies)
 }
 
 /// What is wrong with words that the parser accepts but that name no snapshots.

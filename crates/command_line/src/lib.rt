@@ -4,6 +4,7 @@
 mod commands;
 mod control_words;
 mod help;
+mod texts;
 mod words;
 
 pub use control_words::{ControlWords, SnapshotFiles};

@@ -5,7 +5,8 @@ ghost use Rattle.command_line.specs.Words.{AreMistaken, AreRoundsOf, HasFlag, Is
 ghost use Rattle.command_line.specs.declared.words.Job.{Job};
 
 use crate::commands::command;
-use crate::control_words::{ControlWords, control_fault, control_job};
+use crate::control_words::{ControlWords, control_fault, control_words};
+use crate::texts::text_of;
 use clap::error::ErrorKind;
 use clap::{ArgMatches, Error};
 use std::alloc::{AllocError, Global};
@@ -247,21 +248,6 @@ fn has_flag(matches: &ArgMatches<'_>, name: &str) -> bool
     }
 }
 
-/// The value of this argument, if it has one.
-pub(crate) fn text_of(
-    alloc: Global,
-    matches: &ArgMatches<'_>,
-    name: &str,
-) -> Result<Option<String>, AllocError>
-    ensures { IfOk result (λ text.
-        first_of name.now (rows_of (found_of matches.now)) ≡ option_map string_bytes text) }
-{
-    match matches.get_str(name) {
-        Some(text) => Ok(Some(String::from_str(alloc, text)?)),
-        None => Ok(None),
-    }
-}
-
 fn budget_of(matches: &ArgMatches<'_>) -> Option<u64>
     ensures budget { IfSome result (IsBudgetOf (rows_of (found_of matches.now))) }
     ensures none { IfNone result ((budget : ℕ)
@@ -283,6 +269,19 @@ fn check_config_job(alloc: Global, matches: &ArgMatches<'_>) -> Result<Option<Jo
 {
     match text_of(alloc, matches, "config")? {
         Some(config) => Ok(Some(Job::CheckConfig { config })),
+        None => Ok(None),
+    }
+}
+
+/// The job of the subcommand `control`, if its values are present and allowed.
+fn control_job(alloc: Global, matches: &ArgMatches<'_>) -> Result<Option<Job>, AllocError>
+    ensures job { IfOk result (λ job. IfSome job (λ job. (subcommand_name job ≡ codes "control")
+        × IsJobOfRows (rows_of (found_of matches.now)) job)) }
+    ensures none { IfOk result (λ job. IfNone job ((other : Job) → subcommand_name other ≡ codes "control"
+        → ¬ (IsJobOfRows (rows_of (found_of matches.now)) other))) }
+{
+    match control_words(alloc, matches)? {
+        Some(words) => Ok(Some(Job::Control(words))),
         None => Ok(None),
     }
 }

@@ -8,4 +8,4 @@ mod response_fault;
 
 pub use meanings::{meaning_of, rule_of};
 pub use refused_part::{Meaning, RefusedPart, StepsLeft};
-pub use response_fault::{ResponseFault, fault_in, reason_in};
+pub use response_fault::{ResponseFault, fault_of};

@@ -2,8 +2,8 @@
 
 use crate::meanings::meaning_of;
 use attributes::Limits;
-use proto_wire::Refusal;
-use rbac_policy::{OverBudget, over_budget, place_of};
+use proto_wire::{Fault, Refusal};
+use rbac_policy::{OverBudget, over_budget, place_of, place_of_fault};
 use std::alloc::Global;
 use std::fmt;
 
@@ -38,6 +38,27 @@ impl RefusedPart {
         }
         RefusedPart {
             place: place_of(alloc, bytes, refusal, limits, budget),
+            steps: None,
+        }
+    }
+
+    /// The part of these bytes that has the fault with which they were refused under these limits and this budget.
+    /// Out of memory is of no part.
+    pub fn at(
+        alloc: Global,
+        bytes: &[u8],
+        fault: &Fault,
+        limits: &Limits,
+        budget: u64,
+    ) -> RefusedPart {
+        if fault.refusal == Refusal::TooCostly {
+            return costly_part(alloc, bytes, limits, budget);
+        }
+        if fault.refusal == Refusal::Memory {
+            return RefusedPart::unknown();
+        }
+        RefusedPart {
+            place: place_of_fault(alloc, bytes, fault),
             steps: None,
         }
     }

@@ -11,4 +11,4 @@ pub use accesses::{Accesses, Scene, Unjudged, verdict_of};
 pub use clocks::{micros, unix_millis};
 pub use connections::{Connection, Connections};
 pub use logs::Logs;
-pub use responses::{Refusing, Responses, accepted_update, filters_of, refusal_in};
+pub use responses::{Refusing, accepted_update, places_of};

@@ -3,7 +3,7 @@ use Rattle.std.proofs.Common.{◌≡◌, ℕ, ◌↔◌, List, [], ◌∷◌, Op
 use Rattle.std.specs.Str.{bytes_eq}
 use Rattle.attributes.proofs.TextOrder.{same_from_test}
 use Rattle.program_texts.specs.Facts.{name_of}
-use Rattle.program_texts.specs.declared.facts.Fact.{Fact}
+use Rattle.program_texts.specs.declared.fact.Fact.{Fact}
 use Rattle.attributes.proofs.Names.{find_passes}
 
 -- every fact

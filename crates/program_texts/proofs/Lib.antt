@@ -1,3 +1,4 @@
+pub mod FactFaults
 mod FactLemmas
 pub mod LineLemmas
 pub mod Names

@@ -6,7 +6,7 @@ use Rattle.attributes.proofs.StandardFacts.{addresses}
 use Rattle.serde_json.specs.Data.{boolean, number, unsigned, string, object, Members, no_members, member}
 use Rattle.serde_json.specs.Find.{get}
 use Rattle.program_texts.specs.Facts.{AreFacts, fact_row, name_of}
-use Rattle.program_texts.specs.declared.facts.Fact.{Fact}
+use Rattle.program_texts.specs.declared.fact.Fact.{Fact}
 
 -- `{"connection.mtls": true, "destination.port": 443, "direct_remote_ip": "13.1.68.3", "source.address": "13.1.68.3:80"}`
 abbrev members : Members

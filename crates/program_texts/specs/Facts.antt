@@ -1,5 +1,5 @@
 -- The facts of a connection as a JSON object: RFC 8259 section 4; the names are those of Envoy, "Attributes".
-use Rattle.std.specs.Prelude.{◌≡◌, ◌⊎◌, ℕ, ◌^◌, ◌<◌, List, Bool, Option, Some, None, codes, unwrap_or, IsUtf8}
+use Rattle.std.specs.Prelude.{◌≡◌, ◌≢◌, ◌⊎◌, ℕ, ◌^◌, ◌<◌, List, Bool, Option, Some, None, codes, length, unwrap_or, IsUtf8}
 use Rattle.attributes.specs.Address.{IsIpText}
 use Rattle.attributes.specs.Conn.{Facts}
 use Rattle.attributes.specs.Limits.{FactsInLimits, largest}
@@ -7,8 +7,10 @@ use Rattle.attributes.specs.declared.address.Ip.{Ip}
 use Rattle.serde_json.specs.Data.{Data, boolean, number, unsigned, string, object, Members, no_members, member}
 use Rattle.serde_json.specs.Find.{get}
 use Rattle.serde_json.specs.Read.{read}
-use Rattle.program_texts.specs.declared.facts.Fact.{Fact}
-use Rattle.program_texts.specs.declared.facts.Fact.TheVariants.{SourceAddress, SourcePort, DestinationAddress, DestinationPort, ConnectionMtls, ConnectionId, ConnectionRequestedServerName, ConnectionTlsVersion, ConnectionSubjectPeerCertificate, ConnectionDnsSanPeerCertificate, ConnectionUriSanPeerCertificate, DirectRemoteIp, RemoteIp, DestinationIp, RequestScheme}
+use Rattle.program_texts.specs.declared.fact.Fact.{Fact}
+use Rattle.program_texts.specs.declared.fact.Fact.TheVariants.{SourceAddress, SourcePort, DestinationAddress, DestinationPort, ConnectionMtls, ConnectionId, ConnectionRequestedServerName, ConnectionTlsVersion, ConnectionSubjectPeerCertificate, ConnectionDnsSanPeerCertificate, ConnectionUriSanPeerCertificate, DirectRemoteIp, RemoteIp, DestinationIp, RequestScheme}
+use Rattle.program_texts.specs.declared.fact_fault.FactFault.{FactFault}
+use Rattle.program_texts.specs.declared.fact_fault.FactFault.TheVariants.{NoObject, NoFact, NotOfKind, TooLong}
 use Rattle.program_texts.specs.declared.facts.FactsFault.{FactsFault}
 use Rattle.program_texts.specs.declared.facts.FactsFault.TheVariants.{Bad, Memory}
 
@@ -100,3 +102,42 @@ IsFactsText text f = IsUtf8 text × ((d : Data) × (read text ≡ Some d) × Are
 abbrev pub TellsNone : List ℕ → Type 0
 TellsNone text = ((f : Facts) → ¬ IsFactsText text f)
     ⊎ ((f : Facts) × IsFactsText text f × ¬ FactsInLimits f largest)
+
+-- a member has this name
+abbrev pub HasMember : List ℕ → Members → Type 0
+HasMember name no_members = ⊥
+HasMember name (member own d ms) = (own ≡ name) ⊎ HasMember name ms
+
+-- why the value means no facts. It is no object, or a member has the fault: no fact has its name, or its fact cannot have
+-- its value
+abbrev pub HasFactFault : Data → FactFault → Type 0
+HasFactFault d NoObject = (ms : Members) → d ≢ object ms
+HasFactFault d (NoFact name) = (ms : Members) × (d ≡ object ms) × HasMember name.now ms × ¬ IsFactName name.now
+HasFactFault d (NotOfKind fact) =
+    (v : Data) × (get (name_of fact) d ≡ Some v) × ((f : Facts) → ¬ (fact_row fact).1 (Some v) f)
+HasFactFault d (TooLong fact count) = ⊥
+
+-- the text of a fact, if it is a text that is known
+abbrev pub text_of : Fact → Facts → Option (List ℕ)
+text_of SourceAddress f = f.source_address
+text_of DestinationAddress f = f.destination_address
+text_of ConnectionRequestedServerName f = f.requested_server_name
+text_of ConnectionTlsVersion f = f.tls_version
+text_of ConnectionSubjectPeerCertificate f = f.subject_peer_certificate
+text_of ConnectionDnsSanPeerCertificate f = f.dns_san_peer_certificate
+text_of ConnectionUriSanPeerCertificate f = f.uri_san_peer_certificate
+text_of RequestScheme f = Some f.scheme
+text_of _ f = None
+
+-- the text of this fact is above the limit, and has as many bytes as the fault says
+abbrev pub IsLong : Fact → Option (List ℕ) → FactFault → Type 0
+IsLong fact text e =
+    (bytes : List ℕ) × (text ≡ Some bytes) × (largest.text < length bytes) × (e ≡ TooLong fact (length bytes))
+
+-- the fault is that of a fact whose text is above the limit
+abbrev pub HasLongText : Facts → FactFault → Type 0
+HasLongText f e = (fact : Fact) × IsLong fact (text_of fact f) e
+
+-- why the value means no facts within the limits
+abbrev pub MeansNone : Data → FactFault → Type 0
+MeansNone d e = HasFactFault d e ⊎ ((f : Facts) × AreFacts d f × HasLongText f e)

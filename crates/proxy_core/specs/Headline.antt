@@ -13,7 +13,7 @@ use Rattle.cel_value.specs.Values.{CelAnswer}
 use Rattle.proto_wire.specs.declared.refusal.Refusal.{Refusal}
 use Rattle.xds_wire.specs.Discovery.{ResponseMessage}
 use Rattle.rbac_policy.specs.Condition.{IsProgramOf, Program}
-use Rattle.stack_machine.specs.Machine.{Ends, NeverStuck}
+use Rattle.machine_code.specs.Machine.{Ends, NeverStuck}
 use Rattle.ads.specs.Config.{ConfigValue}
 use Rattle.ads.specs.Answer.{AcceptsAs, IsAdmitting, Refuses, ack_of, nack_of}
 use Rattle.http_front.specs.declared.ask.Ask.{Ask}

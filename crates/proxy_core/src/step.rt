@@ -3,6 +3,7 @@
 ghost use Rattle.std.specs.Prelude.{◌≡◌, ◌<◌, [], None, Some, false, true, IfOk, IfSome, IsOk, OnErr, MatchBool, MatchOption};
 ghost use Rattle.attributes.specs.Conn.{conn_view};
 ghost use Rattle.ads.specs.Ends.{client_view};
+ghost use Rattle.ads.specs.Judgements.{TellsBy};
 ghost use Rattle.http_front.specs.Front.{HasNoAsk, fed_front};
 ghost use Rattle.proxy_core.specs.Events.{ads_bytes, ads_output, ads_up, event_view, http_bytes, http_open, http_output, no_output, output_view};
 ghost use Rattle.proxy_core.specs.Proxies.{proxy_view};
@@ -12,7 +13,7 @@ ghost use Rattle.proxy_core.specs.steps.Fronts.{IsOpenFor, KeepsAt};
 use crate::event::{Event, Output};
 use crate::hearing::{opened, taken};
 use crate::proxy::Proxy;
-use ads::{Client, Config};
+use ads::{Client, Config, Judgement};
 use attributes::Conn;
 use http_front::Front;
 use std::alloc::{AllocError, Global};
@@ -103,6 +104,24 @@ impl Proxy {
         }
     }
 
+    /// Takes the event that the update stream delivers bytes, as `step` does. Also returns the judgements of the
+    /// responses that the bytes complete, for a log: one for each request in the output, in the same order.
+    pub fn hear_updates(&mut self, bytes: &[u8]) -> Result<(Output, Vec<Judgement>), AllocError>
+        ensures found { IfOk result (λ r.
+            StepsBy (proxy_view self.old) (ads_bytes bytes.now) (output_view r.0) (proxy_view self.new)) }
+        ensures judged { IfOk result (λ r. let client = (proxy_view self.old).client in
+            TellsBy client.stream client bytes.now r.0.ads.items r.1.items (proxy_view self.new).client) }
+        ensures fault { OnErr result (proxy_view self.new ≡ proxy_view self.old) }
+        ensures sure { TakesNoMemory (proxy_view self.old) (ads_bytes bytes.now) → IsOk result }
+    {
+        if !self.client.is_up() {
+            return Ok((Output::none(self.alloc), Vec::new(self.alloc)));
+        }
+        let fed = self.client.feed(bytes)?;
+        let output = Output::on_ads(self.alloc, fed.replies, fed.broken);
+        Ok((output, fed.judgements))
+    }
+
     /// The update stream comes up.
     fn ads_up(&mut self) -> Result<Output, AllocError>
         ensures found { IfOk result (λ out.
@@ -120,11 +139,10 @@ impl Proxy {
         ensures fault { OnErr result (proxy_view self.new ≡ proxy_view self.old) }
         ensures sure { TakesNoMemory (proxy_view self.old) (ads_bytes bytes.now) → IsOk result }
     {
-        if !self.client.is_up() {
-            return Ok(Output::none(self.alloc));
+        match self.hear_updates(bytes) {
+            Ok((output, _)) => Ok(output),
+            Err(AllocError) => Err(AllocError),
         }
-        let fed = self.client.feed(bytes)?;
-        Ok(Output::on_ads(self.alloc, fed.replies, fed.broken))
     }
 
     /// A connection opens in place `k`; it is closed at once if its facts are outside the limits. If it does not open, no

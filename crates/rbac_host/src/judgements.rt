@@ -1,119 +1,114 @@
 //! What is counted, logged and recorded of a judgement.
 
 use crate::observed::Observed;
-use host_logs::{Refusing, Responses, accepted_update, filters_of, refusal_in, unix_millis};
-use proto_wire::Refusal;
+use ads::{Judgement, Outcome, Refused};
+use host_logs::{Refusing, accepted_update, places_of, unix_millis};
 use rbac_policy::Admitted;
-use rbac_serve::Judged;
+use rbac_serve::{Judged, judged};
 use serve_admin::{PoliciesStatus, RefusalStatus};
 use serve_log::{Fed, LogFiles, update_line};
 use std::alloc::{AllocError, Global};
-use std::mem;
 use std::rt::Clock;
-use xds_wire::DiscoveryResponse;
 
-/// A judgement.
+/// How long a judgement took, and when it ended.
 #[derive(Clone, Copy)]
-struct Judgement {
-    judged: Judged,
-    /// How long it took, in microseconds.
+struct Times {
+    /// In microseconds.
     micros: u64,
-    /// When it ended, in milliseconds since 1970.
-    time: u64,
+    /// In milliseconds since 1970.
+    ended: u64,
 }
 
 impl<R: Clock, F: LogFiles + Drop> Observed<'_, R, F> {
     /// A response is complete with these bytes and was judged, in so many microseconds.
-    pub(crate) fn note_judgement(&mut self, bytes: &[u8], judged: Judged, micros: u64) {
-        let judgement = Judgement {
-            judged,
+    pub(crate) fn note_judgement(&mut self, bytes: &[u8], judgement: &Judgement, micros: u64) {
+        let times = Times {
             micros,
-            time: unix_millis(self.rt),
+            ended: unix_millis(self.rt),
         };
         self.admin
             .metrics
-            .response(judged == Judged::Accepted, micros);
-        let responses = mem::replace(&mut self.responses, Responses::new(self.alloc));
-        let named = match responses.response() {
-            Some(response) => self.note(&response, judgement),
-            None => Ok(Vec::new(self.alloc)),
-        };
-        self.record(bytes, judged, named);
+            .response(judged(judgement) == Judged::Accepted, micros);
+        let _ = self.note(judgement, times);
+        self.record(bytes, &judgement.outcome);
     }
 
     // Records the bytes that complete a response.
-    fn record(&mut self, bytes: &[u8], judged: Judged, named: Result<Vec<usize>, AllocError>) {
+    fn record(&mut self, bytes: &[u8], outcome: &Outcome) {
         let Some(recorder) = &mut self.logs.recorder else {
             return;
         };
-        match (judged, named) {
-            (Judged::Accepted, Ok(named)) => recorder.fed(bytes, &Fed::Accepted(&named)),
-            (Judged::Accepted, Err(AllocError)) => recorder.fed(bytes, &Fed::Accepted(&[])),
-            (Judged::Refused, _) => recorder.fed(bytes, &Fed::Refused),
+        match outcome {
+            Outcome::Accepted(given) => match places_of(self.alloc, given) {
+                Ok(places) => recorder.fed(bytes, &Fed::Accepted(&places)),
+                Err(AllocError) => recorder.fed(bytes, &Fed::Accepted(&[])),
+            },
+            Outcome::Refused(_) => recorder.fed(bytes, &Fed::Refused),
         }
     }
 
-    // Notes a judgement in the status and in the log. Returns the filters that an accepted response names.
-    fn note(
-        &mut self,
-        response: &DiscoveryResponse<'_>,
-        judgement: Judgement,
-    ) -> Result<Vec<usize>, AllocError> {
-        let version = response.version_info;
+    // Notes a judgement in the status and in the log.
+    fn note(&mut self, judgement: &Judgement, times: Times) -> Result<(), AllocError> {
+        let version = judgement.version.as_str();
         self.admin
             .metrics
-            .admission(version, judgement.time, judgement.micros)?;
-        match judgement.judged {
-            Judged::Accepted => self.note_accepted(response, judgement),
-            Judged::Refused => self.note_refused(response, judgement),
+            .admission(version, times.ended, times.micros)?;
+        match &judgement.outcome {
+            Outcome::Accepted(given) => self.note_accepted(judgement, given, times),
+            Outcome::Refused(refused) => self.note_refused(judgement, refused, times),
         }
     }
 
     fn note_accepted(
         &mut self,
-        response: &DiscoveryResponse<'_>,
-        judgement: Judgement,
-    ) -> Result<Vec<usize>, AllocError> {
+        judgement: &Judgement,
+        given: &[bool],
+        times: Times,
+    ) -> Result<(), AllocError> {
         let alloc = self.alloc;
+        let version = judgement.version.as_str();
         let client = self.worker.client();
         let generation = client.generation();
-        let named = filters_of(alloc, response, client.config())?;
+        let places = places_of(alloc, given)?;
         self.admin.status.generation = generation;
-        self.admin.status.version = String::from_str(alloc, response.version_info)?;
-        for filter in &named {
+        self.admin.status.version = String::from_str(alloc, version)?;
+        for filter in &places {
             if let Some(Some(admitted)) = client.policies().get(*filter) {
-                let status = policies_status(alloc, admitted, response.version_info)?;
+                let status = policies_status(alloc, admitted, version)?;
                 self.admin.set_policies(*filter, status)?;
             }
         }
-        self.log_update(&accepted_update(response, generation, judgement.micros / 1_000));
-        Ok(named)
+        self.log_update(&accepted_update(judgement, generation, times.micros / 1_000));
+        Ok(())
     }
 
     fn note_refused(
         &mut self,
-        response: &DiscoveryResponse<'_>,
-        judgement: Judgement,
-    ) -> Result<Vec<usize>, AllocError> {
+        judgement: &Judgement,
+        refused: &Refused,
+        times: Times,
+    ) -> Result<(), AllocError> {
         let alloc = self.alloc;
         let client = self.worker.client();
-        let generation = client.generation();
-        let reason = refusal_in(alloc, self.worker.request()).unwrap_or(Refusal::Memory);
-        let refusing = Refusing::of(alloc, response, reason, client)?;
-        let update = refusing.update(response, generation, judgement.micros / 1_000);
-        if let Ok(line) = update_line(alloc, judgement.time, &update) {
+        let refusing = Refusing::of(alloc, refused, client.config())?;
+        let update = refusing.update(judgement, client.generation(), times.micros / 1_000);
+        if let Ok(line) = update_line(alloc, times.ended, &update) {
             self.logs.updates.line(line.as_str());
         }
+        let filter = match refusing.fault.filter {
+            Some(name) => Some(String::from_str(alloc, name)?),
+            None => None,
+        };
         self.admin.status.refusal = Some(RefusalStatus {
-            time: judgement.time,
-            version: String::from_str(alloc, response.version_info)?,
-            number: u64::from(reason.number()),
-            name: String::from_str(alloc, reason.name())?,
+            time: times.ended,
+            version: String::from_str(alloc, &judgement.version)?,
+            number: u64::from(refusing.reason.number()),
+            name: String::from_str(alloc, refusing.reason.name())?,
             cause: refusing.cause,
-            filter: refusing.fault.filter,
+            filter,
             place: refusing.fault.part.place,
         });
-        Ok(Vec::new(alloc))
+        Ok(())
     }
 }
 

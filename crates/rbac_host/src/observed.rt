@@ -1,12 +1,13 @@
 //! A worker whose events are counted, logged and recorded. None of that has an effect on its answers.
 
 use crate::words::{closed_of, word_of};
+use ads::Judgement;
 use attributes::Conn;
-use host_logs::{Connections, Logs, Responses, Scene, micros, unix_millis, verdict_of};
+use host_logs::{Connections, Logs, Scene, micros, unix_millis, verdict_of};
 use http_front::Ask;
 use proxy_core::Told;
 use rbac_policy::Reason;
-use rbac_serve::{End, Fed, Heard, Judged, Loss, Sent, Service, Taken, Worker, judged_since};
+use rbac_serve::{End, Heard, Loss, Sent, Service, Taken, Worker, judged};
 use serve_admin::{Admin, StreamStatus};
 use serve_log::{LogFiles, RecordPosition, Update, update_line};
 use std::alloc::{AllocError, Global};
@@ -23,7 +24,6 @@ pub(crate) struct Observed<'r, R: Clock, F: LogFiles + Drop> {
     pub(crate) rt: &'r R,
     pub(crate) worker: Worker,
     pub(crate) connections: Connections,
-    pub(crate) responses: Responses,
     pub(crate) admin: Admin,
     pub(crate) logs: Logs<F>,
     /// How many decisions were made since the steps of one were counted.
@@ -156,7 +156,6 @@ impl<R: Clock, F: LogFiles + Drop> Service for Observed<'_, R, F> {
 
     fn up(&mut self) -> Result<(), AllocError> {
         self.worker.up()?;
-        self.responses.clear();
         if let Some(recorder) = &mut self.logs.recorder {
             recorder.up();
         }
@@ -169,22 +168,20 @@ impl<R: Clock, F: LogFiles + Drop> Service for Observed<'_, R, F> {
     }
 
     fn feed(&mut self, bytes: &[u8]) -> Result<Taken, AllocError> {
-        let before = self.worker.client().generation();
         let began = micros(self.rt);
-        let Fed { count, closes } = self.worker.feed(bytes)?;
+        let fed = self.worker.feed(bytes)?;
         let taken = micros(self.rt).saturating_sub(began);
-        let response = judged_since(&self.worker, before);
-        self.observe(bytes.get(..count).unwrap_or(&[]), response, taken);
+        let judgement = fed.judgements.last();
+        self.observe(bytes.get(..fed.count).unwrap_or(&[]), judgement, taken);
         Ok(Taken {
-            count,
-            response,
-            closes,
+            count: fed.count,
+            response: judgement.map(judged),
+            closes: fed.closes,
         })
     }
 
     fn lost(&mut self, loss: Loss) {
         self.worker.lost();
-        self.responses.clear();
         // of a stream that was never up the network knows the cause
         if loss != Loss::Unreachable {
             if let Some(recorder) = &mut self.logs.recorder {
@@ -206,10 +203,9 @@ impl<R: Clock, F: LogFiles + Drop> Service for Observed<'_, R, F> {
 
 impl<R: Clock, F: LogFiles + Drop> Observed<'_, R, F> {
     // Counts, logs and records bytes of the update stream, and the judgement of the response that they complete.
-    fn observe(&mut self, bytes: &[u8], response: Option<Judged>, taken: u64) {
-        self.responses.keep(bytes);
-        match response {
-            Some(judged) => self.note_judgement(bytes, judged, taken),
+    fn observe(&mut self, bytes: &[u8], judgement: Option<&Judgement>, taken: u64) {
+        match judgement {
+            Some(judgement) => self.note_judgement(bytes, judgement, taken),
             None => {
                 if let Some(recorder) = &mut self.logs.recorder {
                     recorder.fed(bytes, &serve_log::Fed::Partial);

@@ -10,7 +10,7 @@ use crate::upkeep::Upkeep;
 use admin_port::AdminPort;
 use ads::Config;
 use attributes::Conn;
-use host_logs::{Accesses, Connections, Logs, Responses, micros, unix_millis};
+use host_logs::{Accesses, Connections, Logs, micros, unix_millis};
 use rbac_serve::{Server, Worker};
 use serve_admin::{Admin, FilterStatus};
 use serve_config::{Record, ServeConfig};
@@ -94,7 +94,6 @@ fn observed_of<'r>(
         rt,
         worker: Worker::new(alloc, config, settings.connections)?,
         connections: Connections::new(alloc, settings.connections)?,
-        responses: Responses::new(alloc),
         admin: Admin::new(alloc, node, unix_millis(rt), filters)?,
         logs: logs_of(alloc, rt, config, settings)?,
         decisions: 0,

@@ -3,6 +3,8 @@ use Rattle.std.specs.Prelude.{◌≡◌, ◌≢◌, ◌<◌, ◌≤◌, ◌⊎�
 use Rattle.xds_wire.specs.Discovery.{RequestMessage}
 use Rattle.ads.specs.Answer.{Accepted}
 use Rattle.ads.specs.Client.{IsFrameThen}
+use Rattle.ads.specs.Judgements.{TellsBy}
+use Rattle.ads.specs.declared.judgement.Judgement.{Judgement}
 use Rattle.http_front.specs.Front.{FrontValue}
 use Rattle.proxy_core.specs.Events.{EventValue, ads_up, ads_bytes, ads_lost, http_open, http_bytes, http_closed, OutputValue, ads_output, http_output}
 use Rattle.proxy_core.specs.Step.{EventCall, answered, no_memory, StepsBy, TellsBytes, front_at}
@@ -86,6 +88,15 @@ pub data FeedsTurn (old : WorkerValue) (bytes : List ℕ) (count : ℕ) (closes 
   feeds : (requests : List ℕ) → old.requests ≡ [] → (bytes ≢ [] → 0 < count) → count ≤ length bytes
       → Works old (ads_bytes (take count bytes)) (ads_output requests closes) new → IsOneRequest requests
       → FeedsTurn old bytes count closes new
+
+-- the judgements of the responses that the bytes complete which are taken, beside the request that is put out; none while
+-- a request waits
+pub data JudgesTurn (old : WorkerValue) (bytes : List ℕ) (count : ℕ) (judgements : List Judgement) (new : WorkerValue)
+    : Type 0 where
+  still : old.requests ≢ [] → judgements ≡ [] → JudgesTurn old bytes count judgements new
+  judges : old.requests ≡ []
+      → TellsBy old.core.client.stream old.core.client (take count bytes) new.requests judgements new.core.client
+      → JudgesTurn old bytes count judgements new
 
 -- ---- what was answered and what was sent
 

@@ -7,7 +7,7 @@ ghost use Rattle.ads.specs.Ends.{client_view};
 ghost use Rattle.proxy_core.specs.Events.{ads_bytes, ads_lost, ads_output, ads_up, http_closed, http_open, http_output, no_output};
 ghost use Rattle.proxy_core.specs.Step.{front_at};
 ghost use Rattle.rbac_serve.specs.Tables.{IsFresh, closed_at, new_worker, waiting_at};
-ghost use Rattle.rbac_serve.specs.Turns.{FeedsTurn, TellsTurn, TurnDoes, Works, answer_sent, request_sent};
+ghost use Rattle.rbac_serve.specs.Turns.{FeedsTurn, JudgesTurn, TellsTurn, TurnDoes, Works, answer_sent, request_sent};
 ghost use Rattle.rbac_serve.specs.Workers.{worker_view};
 
 use crate::guest::Guest;
@@ -154,11 +154,14 @@ impl Worker {
     pub fn feed(&mut self, bytes: &[u8]) -> Result<Fed, AllocError>
         ensures found { IfOk result (λ fed. FeedsTurn (worker_view self.old) bytes.now fed.count fed.closes
             (worker_view self.new)) }
+        ensures judged { IfOk result (λ fed. JudgesTurn (worker_view self.old) bytes.now fed.count
+            fed.judgements.items (worker_view self.new)) }
         ensures fault { OnErr result (worker_view self.new ≡ worker_view self.old) }
     {
         if self.has_request() {
             return Ok(Fed {
                 count: 0,
+                judgements: Vec::new(self.alloc),
                 closes: false,
             });
         }
@@ -166,6 +169,7 @@ impl Worker {
         if !self.client.is_up() {
             return Ok(Fed {
                 count,
+                judgements: Vec::new(self.alloc),
                 closes: false,
             });
         }
@@ -173,6 +177,7 @@ impl Worker {
         self.requests = Outbox::of(fed.replies);
         Ok(Fed {
             count,
+            judgements: fed.judgements,
             closes: fed.broken,
         })
     }

@@ -22,6 +22,6 @@ pub use network::{End, Heard, Judged, Loss, Network, Ready, Service, Stream, Tak
 pub use outbox::{Outbox, Sent};
 pub use results::{Answered, Fed};
 pub use server::{Server, serve};
-pub use service::judged_since;
+pub use service::judged;
 pub use settings::Settings;
 pub use worker::Worker;

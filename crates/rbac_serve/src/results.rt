@@ -1,5 +1,6 @@
 //! The results of a worker's calls.
 
+use ads::Judgement;
 use proxy_core::Told;
 
 /// The result of bytes of a connection.
@@ -12,10 +13,12 @@ pub struct Answered {
 }
 
 /// The result of bytes of the update stream.
-#[derive(Clone, Copy, Debug)]
+#[derive(Debug, Drop)]
 pub struct Fed {
     /// How many of the bytes were taken.
     pub count: usize,
+    /// The judgement of the response that they complete; none if they complete none.
+    pub judgements: Vec<Judgement>,
     /// Whether the stream is to be closed once the answer was sent.
     pub closes: bool,
 }

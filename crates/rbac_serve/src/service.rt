@@ -3,6 +3,7 @@
 use crate::network::{End, Heard, Judged, Loss, Service, Taken};
 use crate::outbox::Sent;
 use crate::worker::Worker;
+use ads::{Judgement, Outcome};
 use attributes::Conn;
 use std::alloc::AllocError;
 use std::io::{self, Write};
@@ -44,11 +45,10 @@ impl Service for Worker {
     }
 
     fn feed(&mut self, bytes: &[u8]) -> Result<Taken, AllocError> {
-        let before = self.client().generation();
         let fed = Worker::feed(self, bytes)?;
         Ok(Taken {
             count: fed.count,
-            response: judged_since(self, before),
+            response: fed.judgements.last().map(judged),
             closes: fed.closes,
         })
     }
@@ -66,14 +66,10 @@ impl Service for Worker {
     }
 }
 
-/// The judgement of the response that was complete since the generation was this, if there was one. A request answers
-/// each.
-pub fn judged_since(worker: &Worker, before: u64) -> Option<Judged> {
-    if worker.client().generation() != before {
-        return Some(Judged::Accepted);
+/// Whether a response was accepted.
+pub fn judged(judgement: &Judgement) -> Judged {
+    match judgement.outcome {
+        Outcome::Accepted(_) => Judged::Accepted,
+        Outcome::Refused(_) => Judged::Refused,
     }
-    if worker.has_request() {
-        return Some(Judged::Refused);
-    }
-    None
 }

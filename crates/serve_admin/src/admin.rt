@@ -72,12 +72,17 @@ impl Admin {
                 None,
             ));
         };
-        match (request.method().as_str(), route) {
-            ("POST", Route::Act(action)) => self.act(request, action),
-            (_, Route::Act(_)) => Ok((Reply::wrong_method(alloc, "POST")?, None)),
-            ("GET" | "HEAD", route) => Ok((self.shown(route)?, None)),
-            _ => Ok((Reply::wrong_method(alloc, "GET, HEAD")?, None)),
+        let method = request.method().as_str();
+        if let Route::Act(action) = route {
+            if method != "POST" {
+                return Ok((Reply::wrong_method(alloc, "POST")?, None));
+            }
+            return self.act(request, action);
         }
+        if method != "GET" && method != "HEAD" {
+            return Ok((Reply::wrong_method(alloc, "GET, HEAD")?, None));
+        }
+        Ok((self.shown(route)?, None))
     }
 
     /// The answer to a request that asks the server to do something.
@@ -108,7 +113,7 @@ impl Admin {
             ),
             Route::Page => (Media::Html, page(alloc)?),
             Route::PageData => (Media::Json, page_data(alloc, &self.metrics, &self.status)?),
-            _ => return Reply::text(alloc, StatusCode::OK, "ok\n"),
+            Route::Health | Route::Act(_) => return Reply::text(alloc, StatusCode::OK, "ok\n"),
         };
         Ok(Reply::new(StatusCode::OK, media, body))
     }

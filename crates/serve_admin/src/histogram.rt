@@ -1,5 +1,5 @@
 //! Numbers counted by their powers of ten.
-ghost use Rattle.std.specs.Prelude.{◌≤◌, ◌<◌, ◌-◌, ◌^◌};
+ghost use Rattle.std.specs.Prelude.{◌≡◌, ◌≤◌, ◌<◌, ◌+◌, ◌-◌, ◌^◌, min};
 
 use crate::counter::{count_in, total};
 
@@ -26,7 +26,9 @@ pub struct Histogram {
 
 impl Histogram {
     /// Of no number.
-    pub(crate) fn new() -> Histogram {
+    pub(crate) fn new() -> Histogram
+        ensures { (result.sum ≡ 0) × (result.greatest ≡ 0) }
+    {
         Histogram {
             counts: [0; 10],
             sum: 0,
@@ -35,7 +37,9 @@ impl Histogram {
     }
 
     /// Counts a number.
-    pub(crate) fn add(&mut self, number: u64) {
+    pub(crate) fn add(&mut self, number: u64)
+        ensures { self.new.sum ≡ min (self.old.sum + number) (2 ^ 64 - 1) }
+    {
         count_in(&mut self.counts, bucket_of(number));
         self.sum = self.sum.saturating_add(number);
         self.greatest = self.greatest.max(number);
@@ -52,12 +56,16 @@ impl Histogram {
     }
 
     /// The sum of the numbers.
-    pub(crate) fn sum(&self) -> u64 {
+    pub(crate) fn sum(&self) -> u64
+        ensures { result ≡ self.now.sum }
+    {
         self.sum
     }
 
     /// The greatest number, or 0.
-    pub(crate) fn greatest(&self) -> u64 {
+    pub(crate) fn greatest(&self) -> u64
+        ensures { result ≡ self.now.greatest }
+    {
         self.greatest
     }
 }

@@ -78,7 +78,17 @@ fn write_mapping(text: &mut String, mapping: &Mapping) -> Result<(), AllocError>
         match &one.fact {
             Fact::ForwardedFor(place) => writeln!(text, " hops {place}")?,
             Fact::Mtls(is) => writeln!(text, " is {is:?}")?,
-            _ => text.push_str("\n")?,
+            Fact::Method
+            | Fact::Target
+            | Fact::Host
+            | Fact::Scheme
+            | Fact::RemoteIp
+            | Fact::DirectRemoteIp
+            | Fact::SourcePort
+            | Fact::RequestedServerName
+            | Fact::SubjectPeerCertificate
+            | Fact::DnsSanPeerCertificate
+            | Fact::UriSanPeerCertificate => text.push_str("\n")?,
         }
     }
     for field in mapping.required() {

@@ -1,4 +1,5 @@
 //! A connection of a record.
+ghost use Rattle.std.specs.Prelude.{◌≡◌, ◌↔◌, ◌<◌, IsTrue, false};
 
 use attributes::Conn;
 
@@ -17,7 +18,9 @@ pub(crate) struct Connection {
 
 impl Connection {
     /// Whether its next event has to go to the file that has its earlier ones.
-    pub(crate) fn needs_file(&self) -> bool {
+    pub(crate) fn needs_file(&self) -> bool
+        ensures { IsTrue result ↔ ((self.now.is_fresh ≡ false) × (0 < self.now.file)) }
+    {
         !self.is_fresh && self.file > 0
     }
 }

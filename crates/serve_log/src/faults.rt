@@ -1,4 +1,5 @@
 //! The faults of a log, and what standard error says about them.
+ghost use Rattle.std.specs.Prelude.{◌≡◌, ◌+◌, ◌-◌, ◌^◌, IsSome, min};
 
 use crate::waiting::Lost;
 use std::alloc::{AllocError, Global};
@@ -73,7 +74,9 @@ pub(crate) struct Faults {
 
 impl Faults {
     /// No line was lost.
-    pub(crate) fn none() -> Faults {
+    pub(crate) fn none() -> Faults
+        ensures { result.dropped ≡ 0 }
+    {
         Faults {
             dropped: 0,
             told: 0,
@@ -83,19 +86,26 @@ impl Faults {
     }
 
     /// How many lines were lost.
-    pub(crate) fn dropped(&self) -> u64 {
+    pub(crate) fn dropped(&self) -> u64
+        ensures { result ≡ self.now.dropped }
+    {
         self.dropped
     }
 
     /// A call failed, and no line is lost so far.
-    pub(crate) fn note(&mut self, fault: Fault) {
+    pub(crate) fn note(&mut self, fault: Fault)
+        ensures first { IsSome self.old.fault → self.new ≡ self.old }
+        ensures lines { self.new.dropped ≡ self.old.dropped }
+    {
         if self.fault.is_none() {
             self.fault = Some(fault);
         }
     }
 
     /// So many lines are lost.
-    pub(crate) fn lose(&mut self, lines: u64) {
+    pub(crate) fn lose(&mut self, lines: u64)
+        ensures { self.new.dropped ≡ min (self.old.dropped + lines) (2 ^ 64 - 1) }
+    {
         self.dropped = self.dropped.saturating_add(lines);
     }
 

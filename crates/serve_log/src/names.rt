@@ -1,4 +1,5 @@
 //! The names of the files of a record.
+ghost use Rattle.std.specs.Prelude.{◌≡◌, ◌↔◌, ◌<◌, IfOk, IsNone, min, string_bytes};
 
 use crate::faults::Fault;
 use crate::files::LogFiles;
@@ -19,20 +20,21 @@ pub(crate) struct Names {
 
 impl Names {
     /// The names for this path and at most so many older files.
-    pub(crate) fn new(alloc: Global, path: &str, older: u32) -> Result<Names, AllocError> {
+    pub(crate) fn new(alloc: Global, path: &str, older: u32) -> Result<Names, AllocError>
+        ensures path { IfOk result (λ names. string_bytes names.path ≡ path.now) }
+        ensures older { IfOk result (λ names. names.older ≡ min older 1000) }
+    {
         Ok(Names {
             alloc,
             path: String::from_str(alloc, path)?,
-            older: if older < MOST_OLDER {
-                older
-            } else {
-                MOST_OLDER
-            },
+            older: older.min(MOST_OLDER),
         })
     }
 
     /// The path.
-    pub(crate) fn path(&self) -> &str {
+    pub(crate) fn path(&self) -> &str
+        ensures { result.now ≡ string_bytes self.now.path }
+    {
         self.path.as_str()
     }
 
@@ -44,7 +46,9 @@ impl Names {
 
     /// The name of the older file after which so many files were begun; none if it is not kept. The file that is
     /// written is the file after which none was begun.
-    pub(crate) fn name(&self, later: u64) -> Option<Result<String, AllocError>> {
+    pub(crate) fn name(&self, later: u64) -> Option<Result<String, AllocError>>
+        ensures { IsNone result ↔ (self.now.older < later) }
+    {
         if later > self.older as u64 {
             return None;
         }

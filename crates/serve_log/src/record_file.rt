@@ -1,4 +1,5 @@
 //! A file of a record.
+ghost use Rattle.std.specs.Prelude.{◌≡◌, ◌+◌, ◌-◌, ◌^◌, min};
 
 use crate::appender::Appender;
 use crate::faults::{Fault, Faults};
@@ -40,12 +41,16 @@ impl<W: Write + Drop> RecordFile<W> {
     }
 
     /// The number of the file.
-    pub(crate) fn number(&self) -> u64 {
+    pub(crate) fn number(&self) -> u64
+        ensures { result ≡ self.now.number }
+    {
         self.number
     }
 
     /// Whether no line of it was lost.
-    pub(crate) fn is_whole(&self) -> bool {
+    pub(crate) fn is_whole(&self) -> bool
+        ensures { result ≡ self.now.is_whole }
+    {
         self.is_whole
     }
 
@@ -71,17 +76,23 @@ impl<W: Write + Drop> RecordFile<W> {
     }
 
     /// One connection more needs it.
-    pub(crate) fn use_once(&mut self) {
+    pub(crate) fn use_once(&mut self)
+        ensures { self.new.users ≡ min (self.old.users + 1) (2 ^ 64 - 1) }
+    {
         self.users = self.users.saturating_add(1);
     }
 
     /// One connection less needs it.
-    pub(crate) fn leave(&mut self) {
+    pub(crate) fn leave(&mut self)
+        ensures { self.new.users ≡ self.old.users - 1 }
+    {
         self.users = self.users.saturating_sub(1);
     }
 
     /// All its lines so far are the beginning.
-    pub(crate) fn end_beginning(&mut self) {
+    pub(crate) fn end_beginning(&mut self)
+        ensures { self.new.beginning ≡ self.old.bytes }
+    {
         self.beginning = self.bytes;
     }
 

@@ -2,11 +2,11 @@
 //! no contract describes it. A line is left out if there is no memory for it, or if the writer of the log fails.
 
 use crate::log_lines::{
-    End, StreamEvent, answer_value, connection_value, request_value, response_value, stream_value,
+    End, StreamEvent, connection_value, judgement_value, request_value, response_value,
+    stream_value,
 };
-use ads::{Client, Fed};
+use ads::{Client, Judgement, Replied};
 use program_texts::write_whole;
-use proxy_core::Output;
 use serde_json::Value;
 use std::alloc::Global;
 use std::io::Write;
@@ -15,12 +15,12 @@ use xds_wire::{FrameError, Frames, Message};
 /// The greatest length in bytes of a message of an update stream.
 const MOST_MESSAGE: usize = 1_048_576;
 
-/// A log, and the messages of an update stream that it has not written yet.
+/// A log, and the requests of a control plane's client that it has not written yet.
 #[derive(Drop)]
 pub struct Log<W: Drop> {
     alloc: Global,
     writer: Option<W>,
-    /// The bytes received on the update stream; None once memory ran out for them.
+    /// The bytes that a control plane received on its stream; None once memory ran out for them.
     heard: Option<Frames>,
     connections: u64,
 }
@@ -51,7 +51,7 @@ impl<W: Write + Drop> Log<W> {
         }
     }
 
-    /// Keeps bytes received on the update stream.
+    /// Keeps bytes that a control plane received on its stream.
     pub(crate) fn hear(&mut self, bytes: &[u8]) {
         if self.writer.is_none() {
             return;
@@ -72,34 +72,25 @@ impl<W: Write + Drop> Log<W> {
         }
     }
 
-    /// Logs how a proxy answers the responses that it received.
-    pub(crate) fn tell_answers(&mut self, output: &Output, client: &Client) {
+    /// Logs how a proxy's client judged the responses that it received.
+    pub(crate) fn tell_judgements(&mut self, judgements: Vec<Judgement>, client: &Client) {
         if self.writer.is_none() {
             return;
         }
-        let mut sent = Frames::new(self.alloc, MOST_MESSAGE);
-        let _ = sent.feed(&output.ads);
-        for _ in 0..output.ads.len() {
-            let Some(request) = sent.next() else {
-                return;
-            };
-            let Some(response) = self.next_heard() else {
-                return;
-            };
-            let (request, response) = (request.as_slice(), response.as_slice());
-            if let Ok(value) = answer_value(self.alloc, request, response, client) {
+        for judgement in &judgements {
+            if let Ok(value) = judgement_value(self.alloc, judgement, client) {
                 self.tell(&value);
             }
         }
     }
 
     /// Logs the requests that a control plane received, and the responses that it sends.
-    pub(crate) fn tell_served(&mut self, fed: &Fed) {
+    pub(crate) fn tell_served(&mut self, replied: &Replied) {
         if self.writer.is_none() {
             return;
         }
         self.tell_requests();
-        self.tell_responses(&fed.replies);
+        self.tell_responses(&replied.replies);
     }
 
     /// Logs each request that was received.

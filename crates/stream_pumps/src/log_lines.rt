@@ -1,11 +1,11 @@
 //! The lines of a log, as JSON objects. No contract describes them.
 
-use ads::Client;
-use fault_texts::{fault_in, reason_in};
+use ads::{Client, Judgement, Outcome, Refused};
+use fault_texts::fault_of;
 use proto_wire::Refusal;
 use serde_json::{Value, json};
 use std::alloc::{AllocError, Global};
-use xds_wire::{DiscoveryResponse, read_request, read_response};
+use xds_wire::{read_request, read_response};
 
 /// Who ended a connection.
 #[derive(Clone, Copy)]
@@ -46,65 +46,60 @@ pub(crate) fn connection_value(alloc: Global, number: u64, end: End) -> Result<V
     json!(in alloc; {"connection": number, "end": word})
 }
 
-/// The line for a proxy's answer to a response: acknowledged, or refused with the reason and the part of the response
-/// that has the fault.
-pub(crate) fn answer_value(
+/// The line for a response that this client judged: acknowledged, or refused with the reason and the part of the
+/// response that has the fault.
+pub(crate) fn judgement_value(
     alloc: Global,
-    request: &[u8],
-    response: &[u8],
+    judgement: &Judgement,
     client: &Client,
-) -> Result<Value, Refusal> {
-    let request = read_request(alloc, request)?;
-    let response = read_response(alloc, response)?;
-    match &request.error_detail {
-        None => acknowledged_value(alloc, &response, client.generation()),
-        Some(status) => {
-            let reason = reason_in(status.message).ok_or(Refusal::BadText)?;
-            refused_value(alloc, reason, &response, client)
-        }
+) -> Result<Value, AllocError> {
+    match &judgement.outcome {
+        Outcome::Accepted(_) => acknowledged_value(alloc, judgement, client.generation()),
+        Outcome::Refused(refused) => refused_value(alloc, judgement, refused, client),
     }
 }
 
 /// The line for a response that is acknowledged.
 fn acknowledged_value(
     alloc: Global,
-    response: &DiscoveryResponse<'_>,
+    judgement: &Judgement,
     generation: u64,
-) -> Result<Value, Refusal> {
-    Ok(json!(in alloc; {
+) -> Result<Value, AllocError> {
+    json!(in alloc; {
         "update": "acknowledged",
-        "version": response.version_info,
-        "nonce": response.nonce,
+        "version": judgement.version.as_str(),
+        "nonce": judgement.nonce.as_str(),
         "generation": generation
-    })?)
+    })
 }
 
 /// The line for a response that is refused for this reason.
 fn refused_value(
     alloc: Global,
-    reason: Refusal,
-    response: &DiscoveryResponse<'_>,
+    judgement: &Judgement,
+    refused: &Refused,
     client: &Client,
-) -> Result<Value, Refusal> {
-    let fault = fault_in(alloc, response, reason, client.config());
-    let cause = fault.part.meaning(reason).to_string(alloc)?;
-    Ok(json!(in alloc; {
+) -> Result<Value, AllocError> {
+    let refusal = refused.fault.refusal;
+    let fault = fault_of(alloc, refused, client.config());
+    let cause = fault.part.meaning(refusal).to_string(alloc)?;
+    json!(in alloc; {
         "update": "refused",
-        "version": response.version_info,
-        "nonce": response.nonce,
-        "refused": reason.number(),
-        "name": reason.name(),
+        "version": judgement.version.as_str(),
+        "nonce": judgement.nonce.as_str(),
+        "refused": refusal.number(),
+        "name": refusal.name(),
         "cause": cause,
-        "filter": text_or_null(alloc, &fault.filter)?,
-        "place": text_or_null(alloc, &fault.part.place)?,
+        "filter": text_or_null(alloc, fault.filter)?,
+        "place": text_or_null(alloc, fault.part.place.as_deref())?,
         "generation": client.generation()
-    })?)
+    })
 }
 
 /// The text, or `null`.
-fn text_or_null(alloc: Global, text: &Option<String>) -> Result<Value, AllocError> {
+fn text_or_null(alloc: Global, text: Option<&str>) -> Result<Value, AllocError> {
     match text {
-        Some(text) => Value::try_from_str(alloc, text.as_str()),
+        Some(text) => Value::try_from_str(alloc, text),
         None => Ok(Value::Null),
     }
 }

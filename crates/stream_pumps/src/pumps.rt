@@ -2,7 +2,7 @@
 ghost use Rattle.std.specs.Prelude.{◌≡◌, ◌≤◌, false, length, take};
 ghost use Rattle.std.specs.Io.KnownBytes.{Consumes};
 ghost use Rattle.attributes.specs.Conn.{conn_view};
-ghost use Rattle.proxy_core.specs.Events.{event_view};
+ghost use Rattle.proxy_core.specs.Events.{ads_bytes, ads_up, event_view};
 ghost use Rattle.proxy_core.specs.Proxies.{proxy_view};
 ghost use Rattle.ads.specs.Ends.{control_view};
 ghost use Rattle.stream_pumps.specs.ControlPump.{HearsRequests, ServesStream};
@@ -113,14 +113,10 @@ fn turn_of(written: &[u8], closes: bool) -> Turn
 
 /// Passes the core the event that the update stream comes up, and writes the first request. Returns whether the stream
 /// is still up. If it is not, the core has received its loss.
-pub fn open_updates<W: Write, L: Write + Drop>(
-    proxy: &mut Proxy,
-    writer: &mut W,
-    log: &mut Log<L>,
-) -> bool
+pub fn open_updates<W: Write>(proxy: &mut Proxy, writer: &mut W) -> bool
     ensures { Opens (proxy_view proxy.old) (proxy_view proxy.new) (W.contents writer.old) (W.contents writer.new) result }
 {
-    match update(proxy, Event::AdsUp, writer, log) {
+    match bring_up(proxy, writer) {
         Turn::Ended => lose(proxy),
         _ => true,
     }
@@ -172,8 +168,7 @@ fn receive<R: Read, W: Write, L: Write + Drop>(
         if count == 0 {
             return false;
         }
-        log.hear(&part[..count]);
-        match update(proxy, Event::AdsBytes(&part[..count]), writer, log) {
+        match update(proxy, &part[..count], writer, log) {
             Turn::Answered => return true,
             Turn::Ended => return false,
             Turn::Waits => {}
@@ -182,19 +177,33 @@ fn receive<R: Read, W: Write, L: Write + Drop>(
     false
 }
 
-/// Passes the core an event of the update stream, and writes the answer.
+/// Passes the core the event that the update stream comes up, and writes the first request.
+fn bring_up<W: Write>(proxy: &mut Proxy, writer: &mut W) -> Turn
+    ensures { Updates (proxy_view proxy.old) (proxy_view proxy.new) (W.contents writer.old) (W.contents writer.new)
+        ads_up result }
+{
+    match proxy.step(Event::AdsUp) {
+        Ok(output) => match write_whole(writer, &output.ads) {
+            Ok(()) => turn_of(&output.ads, output.ads_close),
+            Err(_) => Turn::Ended,
+        },
+        Err(AllocError) => Turn::Ended,
+    }
+}
+
+/// Passes the core bytes of the update stream, logs how it judged the responses in them, and writes the answers.
 fn update<W: Write, L: Write + Drop>(
     proxy: &mut Proxy,
-    event: Event<'_>,
+    bytes: &[u8],
     writer: &mut W,
     log: &mut Log<L>,
 ) -> Turn
     ensures { Updates (proxy_view proxy.old) (proxy_view proxy.new) (W.contents writer.old) (W.contents writer.new)
-        (event_view event.entry) result }
+        (ads_bytes bytes.now) result }
 {
-    match proxy.step(event) {
-        Ok(output) => {
-            log.tell_answers(&output, proxy.client());
+    match proxy.hear_updates(bytes) {
+        Ok((output, judgements)) => {
+            log.tell_judgements(judgements, proxy.client());
             match write_whole(writer, &output.ads) {
                 Ok(()) => turn_of(&output.ads, output.ads_close),
                 Err(_) => Turn::Ended,

@@ -105,7 +105,7 @@ fn come_up<R: Read + Drop, W: Write + Drop, L: Write + Drop>(
         × (option_map {U = Link} (λ l. (R.remaining l.0, W.contents l.1)) result ≡ None)) }
 {
     match connected {
-        Ok((reader, mut writer)) => match open_updates(proxy, &mut writer, log) {
+        Ok((reader, mut writer)) => match open_updates(proxy, &mut writer) {
             true => {
                 log.tell_stream(StreamEvent::Up);
                 take_one(proxy, (reader, writer), log)

@@ -1,20 +1,21 @@
 -- What a filter takes from the extensions of a response (this project's own).
-use Rattle.std.specs.Prelude.{◌≡◌, ◌⊎◌, ℕ, Option, Result, Ok, Err, List, ◌∷◌}
+use Rattle.std.specs.Prelude.{◌≡◌, ◌⊎◌, ℕ, Option, None, Some, Result, Ok, Err, List, [], ◌∷◌}
 use Rattle.std.specs.List.{AllZip}
 use Rattle.std.specs.declared.alloc.Global.{Global}
 use Rattle.std.specs.declared.vec.Vec.{Vec}
 use Rattle.attributes.specs.Limits.{LimitsValue}
 use Rattle.proto_wire.specs.declared.refusal.Refusal.{Refusal}
 use Rattle.xds_wire.specs.Discovery.{AnyMessage, ExtensionMessage, ResponseMessage}
-use Rattle.xds_wire.specs.Envelope.{SomeOf}
 use Rattle.rbac_policy.specs.declared.filter.Admitted.{Admitted}
 use Rattle.ads.specs.Config.{FilterValue, ConfigValue}
-use Rattle.ads.specs.Answer.{ExtensionIsRefused, FirstOf, Gives, HoldsFilter, HoldsFilterOf, IsAdmitting, IsResource, named, Refuses, RefusesNothing, ResourceFault, extension_type}
+use Rattle.ads.specs.Answer.{FirstOf, Gives, IsResource, named, RefusesNothing, ResourceFault, extension_type}
+use Rattle.ads.specs.Judgements.{FirstAt, IsRefusedAs, Unfit}
 use Rattle.ads.specs.Views.{policies_view}
 use Rattle.ads.specs.declared.judging.Judged.{Judged}
 use Rattle.ads.specs.declared.judging.Judged.TheVariants as judged
 use Rattle.ads.specs.declared.refused.NotAccepted.{NotAccepted}
 use Rattle.ads.specs.declared.refused.NotAccepted.TheVariants as not_accepted
+use Rattle.ads.specs.declared.refused.Refusing.{Refusing}
 
 -- the resource is an extension with a name
 abbrev pub Reads : AnyMessage → Type 0
@@ -24,19 +25,18 @@ Reads any = (extension : ExtensionMessage) × IsResource any extension
 abbrev pub ReadFault : AnyMessage → Refusal → Type 0
 ReadFault any e = ((e ≡ Refusal.Memory) × (any.type_url ≡ extension_type)) ⊎ ResourceFault any e
 
--- the extension holds a filter's message
-abbrev pub HoldsSome : ExtensionMessage → Type 0
-HoldsSome extension = (bytes : List ℕ) × HoldsFilter extension bytes
-
 -- at least two extensions have the name
 abbrev pub IsDoubled : List ℕ → List ExtensionMessage → Type 0
 IsDoubled name xs = (x y : ExtensionMessage) × (more : List ExtensionMessage) × (named name xs ≡ x ∷ y ∷ more)
 
--- the reasons for which a filter refuses the extensions
-pub data TakeFault (limits : LimitsValue) (f : FilterValue) (xs : List ExtensionMessage) (e : Refusal) : Type 0 where
-  twice : IsDoubled f.name xs → e ≡ Refusal.DuplicateResource → TakeFault limits f xs e
-  out_of_memory : (bytes : List ℕ) → HoldsFilterOf xs f bytes → e ≡ Refusal.Memory → TakeFault limits f xs e
-  bad : SomeOf (λ x. ExtensionIsRefused limits f x e) (named f.name xs) → TakeFault limits f xs e
+-- the response or one of its resources is wrong, with this refusal
+abbrev pub IsWhole : Refusal → Refusing → Type 0
+IsWhole refusal r = (r.fault.refusal ≡ refusal) × (r.filter ≡ None) × (r.message.now ≡ [])
+
+-- the reason names the first filter that refuses the extensions, and its fault
+abbrev pub IsFirstUnfit : LimitsValue → List ExtensionMessage → List FilterValue → Refusing → Type 0
+IsFirstUnfit limits xs fs r = (place : ℕ) × (r.filter ≡ Some place)
+    × FirstAt (RefusesNothing limits xs) (λ f. Unfit limits xs f r.fault r.message.now) place fs
 
 -- the policies that the response gives each filter, or the refusal
 abbrev pub IsJudged : ConfigValue → ResponseMessage → Judged → Type 0
@@ -44,12 +44,16 @@ IsJudged c response (judged.Given given) =
     (response.type_url ≡ extension_type)
     × (extensions : List ExtensionMessage) × AllZip IsResource response.resources extensions
     × AllZip (λ f. Gives c.limits f (named f.name extensions)) c.filters (policies_view given.items)
-IsJudged c response (judged.Refused e) = ((e ≡ Refusal.Memory) × IsAdmitting c response) ⊎ Refuses c response e
+IsJudged c response (judged.Refused r) = IsRefusedAs c response r.fault r.filter r.message.now
 
 -- `P` holds of the refusal, or `M` holds if memory ran out outside of an admission
-abbrev pub MatchNotAccepted : (Refusal → Type 0) → Type 0 → NotAccepted → Type 0
-MatchNotAccepted P M (not_accepted.Refused e) = P e
+abbrev pub MatchNotAccepted : (Refusing → Type 0) → Type 0 → NotAccepted → Type 0
+MatchNotAccepted P M (not_accepted.Refused r) = P r
 MatchNotAccepted P M not_accepted.NoMemory = M
+
+-- the response or one of its resources is wrong, with this refusal
+abbrev pub IsWholeRefused : Refusal → NotAccepted → Type 0
+IsWholeRefused refusal e = MatchNotAccepted (IsWhole refusal) ⊥ e
 
 -- where memory may run out outside of an admission: the response has the right type. Its resources read up to one of
 -- the right type, or all read and some filter, and each before it, refuses nothing
@@ -63,7 +67,7 @@ pub data RunsOut (c : ConfigValue) (response : ResponseMessage) : Type 0 where
 -- what is judged like this: what a response gives, or its refusal
 abbrev pub given_of : Judged → Result (Vec (Option Admitted) Global) NotAccepted
 given_of (judged.Given given) = Ok given
-given_of (judged.Refused e) = Err (not_accepted.Refused e)
+given_of (judged.Refused r) = Err (not_accepted.Refused r)
 
 -- the filter with this name and this budget
 abbrev pub filter_of : List ℕ → ℕ → FilterValue

@@ -9,9 +9,8 @@ returns-then-not-branch-clause-answered c old =
     let answered = told_no c.in_ok-answer.field-0 _ _ c.if-not-branch.true (c.in_ok-answer.ensures.answered old) in
     let so_far = rw c.in-Some.ensures at c.loop-message.invariant.3 old in
     goes_on_stop c.args.config.now (draft_view old c.args.draft.now) c.args.frames.now.messages
-    c.args.draft.now.replies.items (draft_view old c.loop-message.draft) (draft_view old c.answer.new.draft)
-    c.in-Some.message c.next.new.self.messages c.loop-message.draft.replies.items c.answer.new.draft.replies.items
-    so_far (rw c.as_slice.ensures at answered)
+    c.args.draft.now.replies.items c.args.draft.now.judgements.items old c.loop-message.draft c.answer.new.draft
+    c.in-Some.message c.next.new.self.messages so_far (rw c.as_slice.ensures at answered)
 
 pub loop-message-preserved : goal.loop-message-preserved
 loop-message-preserved c =
@@ -22,14 +21,13 @@ loop-message-preserved c =
       λ old.
           let answered = told_yes c.in_ok-answer.field-0 _ _ c.if-not-branch.false (c.in_ok-answer.ensures.answered old) in
           goes_on_more c.args.config.now (draft_view old c.args.draft.now) c.args.frames.now.messages
-          c.args.draft.now.replies.items (draft_view old c.loop-message.draft) (draft_view old c.answer.new.draft)
-          c.in-Some.message c.next.new.self.messages c.loop-message.draft.replies.items c.answer.new.draft.replies.items
-          (rw c.in-Some.ensures at c.loop-message.invariant.3 old)
+          c.args.draft.now.replies.items c.args.draft.now.judgements.items old c.loop-message.draft c.answer.new.draft
+          c.in-Some.message c.next.new.self.messages (rw c.in-Some.ensures at c.loop-message.invariant.3 old)
           (rw c.as_slice.ensures at answered),
     )
 
 pub returns-clause-answered : goal.returns-clause-answered
 returns-clause-answered c old =
     goes_on_end c.args.config.now (draft_view old c.args.draft.now) c.args.frames.now.messages
-    c.args.draft.now.replies.items (draft_view old c.loop-message.draft) c.loop-message.draft.replies.items
+    c.args.draft.now.replies.items c.args.draft.now.judgements.items old c.loop-message.draft
     (rw c.in_default.ensures.0 at c.loop-message.invariant.3 old)

@@ -9,7 +9,8 @@ invariant-loop-message l =
     Covers (length l.config.filters) l.draft.given.items
     × (l.frames.max ≡ l.initial.frames.max) × (l.frames.tail ≡ l.initial.frames.tail)
     × ((old : List (Option AdmittedValue)) → GoesOn l.config (draft_view old l.initial.draft) l.initial.frames.messages
-    l.initial.draft.replies.items (draft_view old l.draft) l.frames.messages l.draft.replies.items)
+    l.initial.draft.replies.items l.initial.draft.judgements.items (draft_view old l.draft) l.frames.messages
+    l.draft.replies.items l.draft.judgements.items)
 
 abbrev pub decreases-loop-message : goal.decreases-loop-message
 decreases-loop-message l = length l.frames.messages

@@ -1,30 +1,24 @@
-use Rattle.std.proofs.Common.{◌≡◌, ◌⊎◌, inl, inr, ℕ, List}
-use Rattle.std.proofs.lemmas.Result.{IfErr-weaker}
-use Rattle.proto_wire.specs.Refusal.{MemoryOr}
-use Rattle.proto_wire.specs.declared.refusal.Refusal.{Refusal}
-use Rattle.rbac_policy.specs.Admission.{Fault}
+use Rattle.std.proofs.Common.{◌∙◌}
+use Rattle.std.proofs.lemmas.Result.{err_from_is_err_and}
 use Rattle.xds_wire.specs.View.{extension_view}
-use Rattle.ads.specs.Answer.{ExtensionIsRefused, not_admitted}
-use Rattle.ads.specs.steps.Taking.{HoldsSome, filter_of}
+use Rattle.ads.specs.Judgements.{another_type, message_refused}
 use Rattle.ads.proofs.JudgedLemmas.{admitted_gives}
 use Rattle.ads.proofs.judging.admit_extension.Goals as goal
 
-pub returns-clause-found : goal.returns-clause-found
-returns-clause-found c =
-    admitted_gives c.args.limits.now c.args.budget (extension_view c.args.extension.now) c.in_ok-bytes.bytes.now
-    c.in_ok-bytes.ensures.found c.admit.result c.admit.ensures.found c.admit.ensures.limits
+pub returns-in_err-message-clause-fault : goal.returns-in_err-message-clause-fault
+returns-in_err-message-clause-fault c =
+    let left = err_from_is_err_and c.from_residual.result c.from_residual.ensures.1 in
+    let fault = c.in_err-message.ensures.fault in
+    rw left.1 (λ name xs one. another_type (extension_view c.args.extension.now) one fault.1 (left.2.0 ∙ fault.0)
+    left.2.2)
 
-pub returns-clause-fault : goal.returns-clause-fault
-returns-clause-fault c =
-    let bytes = c.in_ok-bytes.bytes.now in
-    let F : Refusal → Type 0 = λ e. Fault e bytes c.args.limits.now c.args.budget in
-    let G : Refusal → Type 0 = λ e. (name : List ℕ)
-    → ExtensionIsRefused c.args.limits.now (filter_of name c.args.budget) (extension_view c.args.extension.now) e in
-    let holds : HoldsSome (extension_view c.args.extension.now) = (bytes, c.in_ok-bytes.ensures.found) in
-    IfErr-weaker c.admit.result (MemoryOr F)
-    (λ e. ((e ≡ Refusal.Memory) × HoldsSome (extension_view c.args.extension.now)) ⊎ G e)
-    (λ e told. elim told [
-      | inl memory ↦ inl (memory, holds)
-      | inr fault ↦ inr (λ name. not_admitted bytes c.in_ok-bytes.ensures.found fault)
-    ])
-    c.admit.ensures.fault
+pub returns-in-Ok-clause-found : goal.returns-in-Ok-clause-found
+returns-in-Ok-clause-found c =
+    admitted_gives c.args.limits.now c.args.budget (extension_view c.args.extension.now) c.in_ok-message.message.now
+    c.in_ok-message.ensures.found c.admit_at.result c.admit_at.ensures.found c.admit_at.ensures.limits
+    c.in-Ok.admitted c.in-Ok.is
+
+pub returns-in-Err-clause-fault : goal.returns-in-Err-clause-fault
+returns-in-Err-clause-fault c = λ name xs one.
+    message_refused (extension_view c.args.extension.now, one, c.in_ok-message.ensures.found)
+    (rw c.in-Err.is at c.admit_at.ensures.fault) (rw c.in-Err.is at c.admit_at.ensures.place)

@@ -1,6 +1,6 @@
 use Rattle.std.proofs.Common.{inl, inr, refl}
 use Rattle.std.proofs.KnownBytes.{Appends-nil}
-use Rattle.proxy_core.specs.Events.{event_view, output_view}
+use Rattle.proxy_core.specs.Events.{ads_bytes, output_view}
 use Rattle.proxy_core.specs.Step.{answered, no_memory}
 use Rattle.stream_pumps.proofs.PumpLemmas.{stays_open, turn_responds, turn_waits}
 use Rattle.stream_pumps.proofs.pumps.update.Goals as goal
@@ -10,7 +10,7 @@ returns-in-Ok-write_whole g c =
     let appends = rw c.deref.ensures.value at c.in-Ok-write_whole.ensures.whole in
     let turn = rw c.deref-in-Ok-write_whole.ensures.value at c.turn_of.ensures in
     record {
-      call = answered (event_view c.args.event) (output_view c.in-Ok.output);
+      call = answered (ads_bytes c.args.bytes.now) (output_view c.in-Ok.output);
       given = refl;
       does = c.in-Ok.ensures.found;
       written = inl appends;
@@ -23,7 +23,7 @@ pub returns-in-Ok : goal.returns-in-Ok
 returns-in-Ok g c =
     let part = rw c.deref.ensures.value at c.in-Err-write_whole.ensures.part in
     record {
-      call = answered (event_view c.args.event) (output_view c.in-Ok.output);
+      call = answered (ads_bytes c.args.bytes.now) (output_view c.in-Ok.output);
       given = refl;
       does = c.in-Ok.ensures.found;
       written = inr part;
@@ -34,7 +34,7 @@ returns-in-Ok g c =
 
 pub returns : goal.returns
 returns g c = record {
-  call = no_memory (event_view c.args.event);
+  call = no_memory (ads_bytes c.args.bytes.now);
   given = refl;
   does = c.in-Err.ensures.fault;
   written = inl (Appends-nil _);

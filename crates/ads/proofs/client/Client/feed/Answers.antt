@@ -5,17 +5,20 @@ use Rattle.ads.specs.steps.Drafts.{draft_view}
 use Rattle.ads.specs.Views.{policies_view}
 use Rattle.ads.proofs.AdmittedLemmas.{merely_all}
 use Rattle.ads.proofs.AnswerLemmas.{told_no, told_yes}
-use Rattle.ads.proofs.StreamLemmas.{fed_stream, none_of, part_answered}
+use Rattle.ads.proofs.JudgementLemmas.{judged_answered}
+use Rattle.ads.proofs.StreamLemmas.{fed_stream, none_of, part_answered, part_told, told_stream}
 use Rattle.ads.proofs.client.Client.feed.Goals as goal
 
 pub invariant_of-self-2-clause-admitted : goal.invariant_of-self-2-clause-admitted
 invariant_of-self-2-clause-admitted c =
     let old = c.args.self.now.accepted in
     let draft = c.in_ok-draft.draft in
-    let answered = c.in_ok-draft.ensures.answered in
+    let told = c.in_ok-draft.ensures.answered in
+    let answered = judged_answered c.args.self.now.config (state_view old) told.0 draft.judgements.items
+    draft.replies.items (draft_view (policies_view old.policies.items) draft) told.2 told.4 in
     rw (ap (λ (a : Accepted). a.policies) c.commit-replies.ensures.state)
     (merely_all c.args.self.now.config (state_view old) (draft_view (policies_view old.policies.items) draft)
-    answered.0 draft.replies.items answered.1 answered.3 answered.5 c.args.self.now.admitted)
+    told.0 draft.replies.items answered.0 told.2 answered.1 c.args.self.now.admitted)
 
 pub returns-then-branch-clause-found : goal.returns-then-branch-clause-found
 returns-then-branch-clause-found c =
@@ -25,14 +28,35 @@ returns-then-branch-clause-found c =
           c.in-Some.is told.0 c.new-then-branch.ensures.items refl (ap Some told.1) refl,
     )
 
+pub returns-then-branch-clause-judged : goal.returns-then-branch-clause-judged
+returns-then-branch-clause-judged c =
+    let told = told_yes c.in_ok-keeps.field-0 _ _ c.if-branch.true c.in_ok-keeps.ensures.kept in
+    part_told (client_view c.args.self.now) _ c.in-Some.stream c.args.bytes.now c.new-then-branch.result.items
+    c.new-then-branch-2.result.items c.in-Some.is told.0 c.new-then-branch.ensures.items
+    c.new-then-branch-2.ensures.items refl
+
 pub returns-clause-found : goal.returns-clause-found
 returns-clause-found c =
+    let old = c.args.self.now.accepted in
+    let draft = c.in_ok-draft.draft in
     let kept = told_no c.in_ok-keeps.field-0 _ _ c.if-branch.false c.in_ok-keeps.ensures.kept in
     let told = c.in_ok-draft.ensures.answered in
-    let cut = rw kept.1 at told.4 in (
-      told.1,
-      fed_stream (client_view c.args.self.now) _ c.in-Some.stream c.args.bytes.now _ told.0 told.1 told.2 told.3
-          c.commit-replies.result.items c.in_ok-draft.draft.replies.items c.is_none-broken.result
-          c.in-Some.is cut told.5 c.commit-replies.ensures.replies c.commit-replies.ensures.state told.6 refl
+    let cut = rw kept.1 at told.3 in
+    let answered = judged_answered c.args.self.now.config (state_view old) told.0 draft.judgements.items
+    draft.replies.items (draft_view (policies_view old.policies.items) draft) told.2 told.4 in (
+      answered.0,
+      fed_stream (client_view c.args.self.now) _ c.in-Some.stream c.args.bytes.now _ told.0 answered.0 told.1 told.2
+          c.commit-replies.result.0.items draft.replies.items c.is_none-broken.result
+          c.in-Some.is cut answered.1 c.commit-replies.ensures.replies c.commit-replies.ensures.state told.5 refl
           (none_of c.in_ok-draft.stream c.is_none-broken.result c.is_none-broken.ensures),
     )
+
+pub returns-clause-judged : goal.returns-clause-judged
+returns-clause-judged c =
+    let draft = c.in_ok-draft.draft in
+    let kept = told_no c.in_ok-keeps.field-0 _ _ c.if-branch.false c.in_ok-keeps.ensures.kept in
+    let told = c.in_ok-draft.ensures.answered in
+    let cut = rw kept.1 at told.3 in
+    told_stream (client_view c.args.self.now) _ c.in-Some.stream c.args.bytes.now _ told.0 told.1 told.2
+    c.commit-replies.result.0.items draft.replies.items c.commit-replies.result.1.items draft.judgements.items
+    c.in-Some.is cut told.4 c.commit-replies.ensures.replies c.commit-replies.ensures.judgements c.commit-replies.ensures.state

@@ -3,7 +3,8 @@ use Rattle.std.specs.Prelude.{is_some}
 use Rattle.ads.specs.Ends.{client_view}
 use Rattle.proxy_core.specs.Events.{ads_bytes, ads_output}
 use Rattle.rbac_serve.specs.Tables.{sessions_of}
-use Rattle.rbac_serve.specs.Turns.{feeds, waits}
+use Rattle.ads.proofs.StreamLemmas.{told_down}
+use Rattle.rbac_serve.specs.Turns.{feeds, judges, still, waits}
 use Rattle.rbac_serve.specs.Workers.{worker_view}
 use Rattle.rbac_serve.proofs.Feeding.{drop_works, feed_works, fits_same, none_waits, one_request, taken_few, taken_lacks, taken_some, with_stream}
 use Rattle.rbac_serve.proofs.CallLemmas.{same_fits, same_reached}
@@ -65,3 +66,21 @@ returns-clause-found c =
     c.in_ok-fed.fed.broken versions client up fed c.of.ensures)
     (one_request old.core.client (take count c.args.bytes.now) c.in_ok-fed.fed.replies.items c.in_ok-fed.fed.broken
     versions client one fed)
+
+pub returns-then-has_request-clause-judged : goal.returns-then-has_request-clause-judged
+returns-then-has_request-clause-judged c =
+    still (c.has_request.ensures.0 c.if-has_request.true) c.new.ensures.items
+
+pub returns-then-not-is_up-clause-judged : goal.returns-then-not-is_up-clause-judged
+returns-then-not-is_up-clause-judged c =
+    let old = c.args.self.now in
+    let none : old.requests ≡ [] = none_waits old.requests c.has_request.result c.has_request.ensures c.if-has_request.false in
+    let down : is_some (client_view old.client).stream ≡ false = search rules in
+    judges none (told_down (client_view old.client).stream (client_view old.client) _
+    (take c.min-count.result c.args.bytes.now) _ _ down c.new-then-not-is_up.ensures.items)
+
+pub returns-clause-judged : goal.returns-clause-judged
+returns-clause-judged c =
+    let old = c.args.self.now in
+    let none : old.requests ≡ [] = none_waits old.requests c.has_request.result c.has_request.ensures c.if-has_request.false in
+    judges none (rw c.of.ensures c.in_ok-fed.ensures.judged)

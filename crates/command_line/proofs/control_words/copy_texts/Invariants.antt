@@ -1,6 +1,0 @@
--- The texts so far were copied.
-use Rattle.std.proofs.Common.{◌≡◌, map, string_bytes, take}
-use Rattle.command_line.proofs.control_words.copy_texts.Given as goal
-
-abbrev pub invariant-loop-text : goal.invariant-loop-text
-invariant-loop-text l = map string_bytes l.copies.items ≡ map (λ text. text.now) (take l.text-index l.texts)
