@@ -24,6 +24,7 @@ extern "C" {
 uint64_t engine_admit(const char* filter, size_t length, uint64_t rounds);
 uint64_t engine_admit_together(const char* filter, size_t length, uint64_t count, uint64_t rounds);
 uint64_t engine_head(const char* head, size_t length, uint64_t rounds);
+uint64_t engine_kept(const char* head, size_t length, uint64_t rounds);
 uint64_t engine_httparse(const char* head, size_t length, uint64_t rounds);
 uint64_t engine_decide(const char* filter, size_t filter_length, const char* head, size_t head_length, uint64_t copies,
                        uint64_t rounds);
@@ -129,6 +130,7 @@ static void AddHead(int fields) {
     });
   };
   add("engine", engine_head, fields);
+  add("kept", engine_kept, fields);
   add("rust", rust_head, fields);
   add("port_httparse", engine_httparse, head.size());
   add("httparse", rust_httparse, head.size());

@@ -1,6 +1,7 @@
 // Does one work of the engine, and prints its answer and what the heap did in the meantime, a line of words and numbers. The
 // linker leads the engine's malloc, realloc and free here.
 //   probe admit FILTER [ROUNDS]
+//   probe explain FILTER [ROUNDS]         a refused filter: its admission, and the place of its fault in words
 //   probe together FILTER [ROUNDS [COUNT]] admissions of which so many stay until the last is there (8)
 //   probe keep FILTER
 //   probe head HEAD [ROUNDS]
@@ -29,6 +30,7 @@
 #include <sys/resource.h>
 
 uint64_t engine_admit(const char *filter, size_t length, uint64_t rounds);
+uint64_t engine_explain(const char *filter, size_t length, uint64_t rounds);
 uint64_t engine_admit_together(const char *filter, size_t length, uint64_t count, uint64_t rounds);
 uint64_t engine_keep(const char *filter, size_t length, size_t mark);
 uint64_t engine_head(const char *head, size_t length, uint64_t rounds);
@@ -118,7 +120,7 @@ static long faults(void) {
 
 int main(int count, char **words) {
   if (count < 3) {
-    fprintf(stderr, "usage: probe admit|together|keep|head|stream|feed|front|update|update_alone|expression|bound FILE "
+    fprintf(stderr, "usage: probe admit|explain|together|keep|head|stream|feed|front|update|update_alone|expression|bound FILE "
                     "[ROUNDS [COUNT, PIECE, PART or BUDGET]] | "
                     "probe step|step_alone STREAM HEAD [ROUNDS [PIECE [CONNECTIONS]]] | "
                     "probe judge FILTER HEAD [ROUNDS] | probe pack COUNT [ROUNDS [DIFFERENT]]\n");
@@ -131,6 +133,7 @@ int main(int count, char **words) {
   long before = faults();
   if (packs) answer = engine_pack(strtoull(words[2], 0, 10), strtoull(words[count > 4 ? 4 : 2], 0, 10), rounds);
   if (!strcmp(work, "admit")) answer = engine_admit(input.start, input.length, rounds);
+  if (!strcmp(work, "explain")) answer = engine_explain(input.start, input.length, rounds);
   if (!strcmp(work, "together"))
     answer = engine_admit_together(input.start, input.length, count > 4 ? strtoull(words[4], 0, 10) : 8, rounds);
   if (!strcmp(work, "keep")) answer = engine_keep(input.start, input.length, MARK);
