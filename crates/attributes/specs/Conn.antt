@@ -3,8 +3,8 @@
 use Rattle.std.specs.Prelude.{ℕ, ◌^◌, ◌<◌, Option, Some, None, List, [], ◌∷◌, IfSome, option_map}
 use Rattle.std.specs.List.{AllByRecursion}
 use Rattle.std.specs.Str.{IsUtf8}
-use Rattle.std.specs.Rc.{rc_str_bytes}
-use Rattle.std.specs.declared.rc.RcStr.{RcStr}
+use Rattle.std.specs.Arc.{arc_str_bytes}
+use Rattle.std.specs.declared.sync.ArcStr.{ArcStr}
 use Rattle.std.specs.declared.alloc.Global.{Global}
 use Rattle.attributes.specs.declared.conn.Conn.{Conn}
 use Rattle.attributes.specs.Address.{IsAddress}
@@ -36,11 +36,11 @@ pub record AreFacts (f : Facts) : Type 0 where
   pub destination_ip : IfSome f.destination_ip IsAddress
 
 -- the bytes of an optional text
-abbrev pub text_view : Option (RcStr Global) → Option (List ℕ)
-text_view = option_map rc_str_bytes
+abbrev pub text_view : Option (ArcStr Global) → Option (List ℕ)
+text_view = option_map arc_str_bytes
 
 -- the facts that a connection value holds
-abbrev pub conn_view : Conn (RcStr Global) → Facts
+abbrev pub conn_view : Conn (ArcStr Global) → Facts
 conn_view c = record {
   source_address = text_view c.source_address;
   source_port = c.source_port;
@@ -56,7 +56,7 @@ conn_view c = record {
   direct_remote_ip = c.direct_remote_ip;
   remote_ip = c.remote_ip;
   destination_ip = c.destination_ip;
-  scheme = rc_str_bytes c.scheme;
+  scheme = arc_str_bytes c.scheme;
 }
 
 -- the facts of a connection of which only the scheme is known

@@ -6,11 +6,11 @@ use Rattle.std.specs.Ordering.{nat_cmp}
 use Rattle.std.specs.Cmp.Lexicographic.{slice_cmp}
 use Rattle.std.specs.FinMap.{FinMap, from_entries}
 use Rattle.std.specs.Str.{bytes_eq}
-use Rattle.std.specs.Rc.{rc_str_bytes}
+use Rattle.std.specs.Arc.{arc_str_bytes}
 use Rattle.std.specs.String.{string_bytes}
 use Rattle.std.specs.declared.alloc.Global.{Global}
 use Rattle.std.specs.declared.cmp.Ordering.{Ordering}
-use Rattle.std.specs.declared.rc.RcStr.{RcStr}
+use Rattle.std.specs.declared.sync.ArcStr.{ArcStr}
 use Rattle.std.specs.declared.string.String.{String}
 
 -- a name with a value
@@ -26,11 +26,11 @@ abbrev pub lines_view : List (String Global × String Global) → List Entry
 lines_view lines = map line_view lines
 
 -- a header of the code, as bytes
-abbrev pub header_view : RcStr Global × RcStr Global → Entry
-header_view header = (rc_str_bytes header.0, rc_str_bytes header.1)
+abbrev pub header_view : ArcStr Global × ArcStr Global → Entry
+header_view header = (arc_str_bytes header.0, arc_str_bytes header.1)
 
 -- headers of the code, in order, as bytes
-abbrev pub headers_view : List (RcStr Global × RcStr Global) → List Entry
+abbrev pub headers_view : List (ArcStr Global × ArcStr Global) → List Entry
 headers_view headers = map header_view headers
 
 -- the order of names: byte by byte

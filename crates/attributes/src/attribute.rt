@@ -9,7 +9,7 @@ ghost use Rattle.attributes.specs.steps.Request.{lent_view};
 
 use crate::lookup::Headers;
 use crate::request::Request;
-use std::rc::RcStr;
+use std::sync::ArcStr;
 
 /// An attribute: `RequestUrlPath` is the one named `request.url_path`.
 #[derive(Clone, Copy, Debug, PartialEq, Eq)]
@@ -224,7 +224,7 @@ fn text_value(found: Option<&str>) -> Option<AttrValue<'_>>
 }
 
 // The text, if there is one.
-fn lent_text(text: &Option<RcStr>) -> Option<&str>
+fn lent_text(text: &Option<ArcStr>) -> Option<&str>
     ensures { lent_view result ≡ text_view text.now }
 {
     match text {

@@ -11,7 +11,7 @@ use crate::request::Request;
 use std::error::Error;
 use std::fmt;
 use std::marker::Model;
-use std::rc::RcStr;
+use std::sync::ArcStr;
 
 const MOST_FIELDS: usize = 64;
 
@@ -248,7 +248,7 @@ impl Limits {
     }
 }
 
-fn fits_text(text: &Option<RcStr>, most: usize) -> bool
+fn fits_text(text: &Option<ArcStr>, most: usize) -> bool
     ensures { IsTrue result ↔ IsWithin most (text_view text.now) }
 {
     match text {

@@ -13,10 +13,10 @@ use crate::part::{Part, Spot, bytes_at, text_at};
 use std::alloc::{AllocError, Global};
 use std::cmp::Ordering;
 use std::marker::Model;
-use std::rc::{Rc, RcStr};
+use std::sync::{Arc, ArcStr};
 
 /// A header: a name in lower case, and the values of all lines of that name, joined.
-pub type Header = (RcStr, RcStr);
+pub type Header = (ArcStr, ArcStr);
 
 /// Headers by ascending name, each name once. Their texts are parts of one text.
 #[derive(Debug, Drop)]
@@ -61,11 +61,11 @@ impl Headers {
     }
 
     /// A copy of the names with their values, to be kept.
-    pub fn to_pairs(&self, alloc: Global) -> Result<Rc<Vec<Header>>, AllocError>
+    pub fn to_pairs(&self, alloc: Global) -> Result<Arc<Vec<Header>>, AllocError>
         ensures { IfOk result (λ pairs. headers_view pairs.value.items ≡ self.now) }
     {
         let pairs = copy_fields(alloc, self.text.as_slice(), self.fields.as_slice())?;
-        Ok(Rc::new(alloc, pairs)?)
+        Ok(Arc::new(alloc, pairs)?)
     }
 
     /// The value of the header of this name.
@@ -282,8 +282,8 @@ fn copy_field(alloc: Global, text: &[u8], field: &Field) -> Result<Header, Alloc
     requires { IsField text.now field.now }
     ensures { IfOk result (λ pair. header_view pair ≡ entry_in text.now field.now) }
 {
-    let name = RcStr::from_str(alloc, text_at(text, field.name))?;
-    let value = RcStr::from_str(alloc, text_at(text, field.value))?;
+    let name = ArcStr::from_str(alloc, text_at(text, field.name))?;
+    let value = ArcStr::from_str(alloc, text_at(text, field.value))?;
     Ok((name, value))
 }
 

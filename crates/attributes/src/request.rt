@@ -18,7 +18,7 @@ use crate::lookup::Headers;
 use crate::part::Spot;
 use std::alloc::{AllocError, Global};
 use std::marker::Model;
-use std::rc::Rc;
+use std::sync::Arc;
 
 /// A request: its method, target, version and headers, and the facts of its connection. Its texts
 /// are parts of one text, that of the headers.
@@ -33,7 +33,7 @@ pub struct Request {
     query: Spot,
     lines: usize,
     http11: bool,
-    conn: Rc<Conn>,
+    conn: Arc<Conn>,
 }
 
 impl Model for Request {
@@ -79,7 +79,7 @@ impl Request {
             lines: lines.len(),
             bytes: method.len().saturating_add(target.len()),
         };
-        let conn = Rc::new(alloc, conn)?;
+        let conn = Arc::new(alloc, conn)?;
         let mut draft = Draft::new(alloc, method.as_str(), target.as_str(), room)?;
         add_lines(&mut draft, lines.as_slice())?;
         draft.finish(alloc, http11, conn)
@@ -160,7 +160,7 @@ impl Draft {
     /// The request of this draft, of HTTP/1.1 or, if not, of HTTP/1.0. The values of one name are
     /// joined with `,` (RFC 9110 section 5.3). The pseudo-headers `:method`, `:path` and `:scheme`
     /// are added.
-    pub fn finish(self, alloc: Global, http11: bool, conn: Rc<Conn>) -> Result<Request, AllocError>
+    pub fn finish(self, alloc: Global, http11: bool, conn: Arc<Conn>) -> Result<Request, AllocError>
         ensures { IfOk result (λ r. (lines : List Entry) → self.entries ≡ map line_entry lines
             → r ≡ request_of self.method self.target http11 lines (conn_view conn.value)) }
     {

@@ -1,14 +1,14 @@
 //! The facts of a connection, as C gives them.
 
 ghost use Rattle.std.specs.Prelude.{◌≡◌, IfOk, IfErr, IfSome, Some, None, if◌then◌else◌};
-ghost use Rattle.std.specs.Rc.{rc_str_bytes};
+ghost use Rattle.std.specs.Arc.{arc_str_bytes};
 ghost use Rattle.attributes.specs.Conn.{conn_view, text_view};
 ghost use Rattle.c_inputs.specs.Facts.{AreTexts, IsText, MemoryOr, address_given, facts_given, flag_given, port_given, text_given};
 
 use attributes::{Conn, Ip};
 use std::alloc::{AllocError, Global};
-use std::rc::RcStr;
 use std::str;
+use std::sync::ArcStr;
 
 // A longer text is not read: its length may be wrong. The greatest limit of a text is 1,024.
 const MOST_BYTES: usize = 65_536;
@@ -85,20 +85,20 @@ pub fn conn_of(alloc: Global, facts: &FactsInput<'_>) -> Result<Conn, FactsFault
     })
 }
 
-fn shared_text(alloc: Global, bytes: &[u8]) -> Result<RcStr, FactsFault>
-    ensures found { IfOk result (λ text. rc_str_bytes text ≡ bytes.now) }
+fn shared_text(alloc: Global, bytes: &[u8]) -> Result<ArcStr, FactsFault>
+    ensures found { IfOk result (λ text. arc_str_bytes text ≡ bytes.now) }
     ensures fault { IfErr result (MemoryOr (¬ (IsText bytes.now))) }
 {
     if bytes.len() > MOST_BYTES {
         return Err(FactsFault::NoText);
     }
     match str::from_utf8(bytes) {
-        Ok(text) => Ok(RcStr::from_str(alloc, text)?),
+        Ok(text) => Ok(ArcStr::from_str(alloc, text)?),
         Err(_) => Err(FactsFault::NoText),
     }
 }
 
-fn text_or_none(alloc: Global, given: &Text<'_>) -> Result<Option<RcStr>, FactsFault>
+fn text_or_none(alloc: Global, given: &Text<'_>) -> Result<Option<ArcStr>, FactsFault>
     ensures found { IfOk result (λ text. text_view text ≡ text_given given.now) }
     ensures fault { IfErr result (MemoryOr (¬ (IfSome (text_given given.now) IsText))) }
 {

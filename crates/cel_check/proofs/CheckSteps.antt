@@ -15,7 +15,7 @@ use Rattle.cel_tree.specs.View.{target_of, tree_view}
 use Rattle.cel_tree.specs.steps.TreeViews.{boxed_view, tree_entries_view, trees_view}
 use Rattle.cel_tree.specs.declared.tree.Tree.{Tree}
 use Rattle.cel_tree.specs.declared.tree.TreeEntry.{TreeEntry}
-use Rattle.std.specs.declared.rc.RcStr.{RcStr}
+use Rattle.std.specs.declared.sync.ArcStr.{ArcStr}
 use Rattle.cel_tree.specs.Checked.{CelTypeEntry, of_type, dyn_type, unsupported_type}
 use Rattle.cel_value.specs.Texts.{points_of, text_view}
 use Rattle.cel_value.specs.Types.{ValueType, type_eq, type_view}
@@ -38,7 +38,7 @@ use Rattle.cel_types.proofs.CheckNames.{empty_name}
 pub view_empty : scope_view Empty ≡ []
 view_empty = search (rules, the_lemmas)
 
-pub view_local : (n : Bor (RcStr Global)) (t : Bor CelType) (o : Bor Scope)
+pub view_local : (n : Bor (ArcStr Global)) (t : Bor CelType) (o : Bor Scope)
     → scope_view (Local n t o) ≡ (text_view n.now, type_view t.now) ∷ scope_view o.now
 view_local n t o = search (rules, the_lemmas)
 

@@ -20,7 +20,7 @@ use cel_types::{TypedExpr, Variables};
 use cel_value::CelType;
 use machine_code::{Constant as MachineConstant, Instr};
 use std::alloc::AllocError;
-use std::rc::RcStr;
+use std::sync::ArcStr;
 
 /// Whether a call is `&&` or `||` with two operands; its code jumps.
 pub(crate) fn is_junction(overload: Overload, count: usize) -> bool
@@ -59,14 +59,14 @@ fn constant_of(constant: &Constant) -> Result<MachineConstant, AllocError>
 }
 
 /// The look-up of a name in a map; it shares the tree's text.
-pub(crate) fn field_instr(name: &RcStr) -> Result<Instr, AllocError>
+pub(crate) fn field_instr(name: &ArcStr) -> Result<Instr, AllocError>
     ensures { IfOk result (λ i. instr_view i ≡ Field (text_view name.now)) }
 {
     Ok(Instr::Field(name.clone()?))
 }
 
 /// The test whether a map has a name; it shares the tree's text.
-pub(crate) fn has_field_instr(name: &RcStr) -> Result<Instr, AllocError>
+pub(crate) fn has_field_instr(name: &ArcStr) -> Result<Instr, AllocError>
     ensures { IfOk result (λ i. instr_view i ≡ HasField (text_view name.now)) }
 {
     Ok(Instr::HasField(name.clone()?))

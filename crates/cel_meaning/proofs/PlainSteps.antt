@@ -3,7 +3,7 @@ use Rattle.std.proofs.Common.{◌≡◌, ◌<◌, ◌+◌, ◌&&◌, ℕ, ℤ, I
 use Rattle.std.proofs.lemmas.List.{append_assoc, append-nil, drop_more, map-append}
 use Rattle.std.specs.FinMap.{entries, entries-from_sorted, from_sorted, is_sorted}
 use Rattle.std.specs.declared.alloc.Global.{Global}
-use Rattle.std.specs.declared.rc.RcStr.{RcStr}
+use Rattle.std.specs.declared.sync.ArcStr.{ArcStr}
 use Rattle.attributes.specs.Headers.{headers_view, name_cmp}
 use Rattle.attributes.specs.Request.{RequestValue}
 use Rattle.attributes.proofs.TextOrder.{t_from_true}
@@ -35,7 +35,7 @@ use Rattle.cel_ops.proofs.AttributeTypes.{seen_pairs}
 -- ---- headers as they are kept
 
 -- where they stand by ascending name, they are the map that they are seen as
-pub seen_headers : (ps : List (RcStr Global × RcStr Global))
+pub seen_headers : (ps : List (ArcStr Global × ArcStr Global))
     → IsTrue (is_sorted name_cmp (headers_view ps))
     → header_entries (entries (from_sorted {R = name_cmp} (headers_view ps))) ≡ pairs_view ps
 seen_headers ps sorted =

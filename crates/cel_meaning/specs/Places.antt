@@ -1,7 +1,7 @@
 -- The places and locals that values of the code mean.
 use Rattle.std.specs.Prelude.{Bool, true, false, List, [], map, Result, option_map}
 use Rattle.std.specs.declared.alloc.Global.{Global}
-use Rattle.std.specs.declared.rc.RcStr.{RcStr}
+use Rattle.std.specs.declared.sync.ArcStr.{ArcStr}
 use Rattle.cel_tree.specs.View.{tree_view}
 use Rattle.cel_value.specs.Texts.{text_view}
 use Rattle.cel_value.specs.Values.{CelAnswer, fails, value}
@@ -14,7 +14,7 @@ use Rattle.cel_meaning.specs.declared.place.Place.{Place}
 use Rattle.cel_meaning.specs.declared.place.Placed.{Placed}
 
 -- the names and answers of locals, the innermost first
-abbrev pub locals_view : List (RcStr Global × Result Value CelError) → Locals
+abbrev pub locals_view : List (ArcStr Global × Result Value CelError) → Locals
 locals_view known = map (λ local. (text_view local.0, answer_view local.1)) known
 
 -- where an error begins

@@ -22,7 +22,7 @@ use cel_overload::{Function, function_named};
 use cel_tree::Tree;
 use cel_value::{Answer, Value};
 use std::alloc::{AllocError, Global};
-use std::rc::{Rc, RcStr};
+use std::sync::{Arc, ArcStr};
 
 /// What is around a part of an expression that is evaluated for a request.
 #[derive(Clone, Copy)]
@@ -32,7 +32,7 @@ pub(super) struct Around<'c, 't> {
     /// The numbers of the turns, the innermost first.
     pub(super) turns: &'c [usize],
     /// The locals, the innermost first.
-    pub(super) known: &'c [(RcStr, Placed<'t>)],
+    pub(super) known: &'c [(ArcStr, Placed<'t>)],
 }
 
 impl<'c, 't> Around<'c, 't> {
@@ -57,7 +57,7 @@ impl<'c, 't> Around<'c, 't> {
         &self,
         tree: &'t Tree,
         answer: Option<Answer>,
-        inner: Option<Rc<Place<'t>>>,
+        inner: Option<Arc<Place<'t>>>,
     ) -> Result<Option<Placed<'t>>, AllocError>
         ensures { IfOk result (λ found. option_map placed_view found
             ≡ settled (tree_view tree.now) (around_view self.now) (option_map answer_view answer) (shared_view inner.entry)) }
@@ -76,8 +76,8 @@ impl<'c, 't> Around<'c, 't> {
     fn begins(
         &self,
         tree: &'t Tree,
-        inner: Option<Rc<Place<'t>>>,
-    ) -> Result<Rc<Place<'t>>, AllocError>
+        inner: Option<Arc<Place<'t>>>,
+    ) -> Result<Arc<Place<'t>>, AllocError>
         ensures { IfOk result (λ place. place_view place.value
             ≡ begins (tree_view tree.now) (around_view self.now) (shared_view inner.entry)) }
     {
@@ -92,14 +92,14 @@ impl<'c, 't> Around<'c, 't> {
             turns,
             locals,
         };
-        Ok(Rc::new(self.alloc, place)?)
+        Ok(Arc::new(self.alloc, place)?)
     }
 
     /// The answer of a name.
     pub(super) fn name(
         &self,
         tree: &'t Tree,
-        name: &RcStr,
+        name: &ArcStr,
     ) -> Result<Option<Placed<'t>>, AllocError>
         ensures { let found = local (text_view name.now) (around_view self.now).locals in
             IfOk result (λ named. option_map placed_view named ≡ settled (tree_view tree.now) (around_view self.now)
@@ -114,7 +114,7 @@ impl<'c, 't> Around<'c, 't> {
     pub(super) fn call(
         &self,
         tree: &'t Tree,
-        name: &RcStr,
+        name: &ArcStr,
         operands: &[Placed<'t>],
     ) -> Result<Option<Placed<'t>>, AllocError>
         ensures { let placed = map placed_view operands.now in IfOk result (λ found. option_map placed_view found
@@ -158,7 +158,7 @@ impl<'c, 't> Around<'c, 't> {
 }
 
 // The place of a local's answer.
-fn place_of<'t>(found: Option<&Placed<'t>>) -> Result<Option<Rc<Place<'t>>>, AllocError>
+fn place_of<'t>(found: Option<&Placed<'t>>) -> Result<Option<Arc<Place<'t>>>, AllocError>
     ensures { IfOk result (λ place. shared_view place ≡ place_of (option_map (λ a. placed_view a.now) found.entry)) }
 {
     match found {
@@ -171,7 +171,7 @@ fn place_of<'t>(found: Option<&Placed<'t>>) -> Result<Option<Rc<Place<'t>>>, All
 fn call_place<'t>(
     function: Option<Function>,
     operands: &[Placed<'t>],
-) -> Result<Option<Rc<Place<'t>>>, AllocError>
+) -> Result<Option<Arc<Place<'t>>>, AllocError>
     ensures { IfOk result (λ found. shared_view found ≡ call_place function (map placed_view operands.now)) }
 {
     match function {
@@ -181,7 +181,7 @@ fn call_place<'t>(
 }
 
 // The place in a choice: in the branch that it takes, or else in its condition.
-fn choice_place<'t>(operands: &[Placed<'t>]) -> Result<Option<Rc<Place<'t>>>, AllocError>
+fn choice_place<'t>(operands: &[Placed<'t>]) -> Result<Option<Arc<Place<'t>>>, AllocError>
     ensures { IfOk result (λ found. shared_view found ≡ choice_place (map placed_view operands.now)) }
 {
     match operands {

@@ -11,7 +11,7 @@ use cel_ops::element_at;
 use cel_types::Variables;
 use cel_value::{Answer, CelError, Key, Map, Value};
 use std::alloc::{AllocError, Global};
-use std::rc::RcStr;
+use std::sync::ArcStr;
 
 /// What the variables of a comprehension get in one turn.
 #[derive(Drop)]
@@ -110,7 +110,7 @@ fn entry_turns(alloc: Global, entries: &[(Key, Value)]) -> Result<Vec<Turn>, All
     Ok(turns)
 }
 
-fn text_turns(alloc: Global, pairs: &[(RcStr, RcStr)]) -> Result<Vec<Turn>, AllocError>
+fn text_turns(alloc: Global, pairs: &[(ArcStr, ArcStr)]) -> Result<Vec<Turn>, AllocError>
     ensures { IfOk result (λ turns. map turn_view turns.items ≡ keyed_turns (keyed (pairs_view pairs.now))) }
 {
     let mut turns = Vec::new(alloc);

@@ -16,15 +16,15 @@ use cel_tree::{Comprehension, Tree};
 use cel_types::{Variables, is_root};
 use cel_value::{Answer, copy_answer};
 use std::alloc::{AllocError, Global};
-use std::rc::RcStr;
+use std::sync::ArcStr;
 
 /// The locals with one more, the innermost.
 pub(super) fn with_local<'t>(
     alloc: Global,
-    known: &[(RcStr, Placed<'t>)],
-    name: &RcStr,
+    known: &[(ArcStr, Placed<'t>)],
+    name: &ArcStr,
     answer: &Placed<'t>,
-) -> Result<Vec<(RcStr, Placed<'t>)>, AllocError>
+) -> Result<Vec<(ArcStr, Placed<'t>)>, AllocError>
     ensures { IfOk result (λ v. known_view v.items
         ≡ (text_view name.now, placed_view answer.now) ∷ known_view known.now) }
 {
@@ -39,8 +39,8 @@ pub(super) fn with_local<'t>(
 /// The locals without places.
 pub(super) fn answers_of_locals(
     alloc: Global,
-    known: &[(RcStr, Placed<'_>)],
-) -> Result<Vec<(RcStr, Answer)>, AllocError>
+    known: &[(ArcStr, Placed<'_>)],
+) -> Result<Vec<(ArcStr, Answer)>, AllocError>
     ensures { IfOk result (λ v. locals_view v.items ≡ answers_of (known_view known.now)) }
 {
     let mut locals = Vec::new(alloc);
@@ -53,8 +53,8 @@ pub(super) fn answers_of_locals(
 /// These locals, whose answers have no places.
 pub(super) fn bare_locals<'t>(
     alloc: Global,
-    locals: &[(RcStr, Answer)],
-) -> Result<Vec<(RcStr, Placed<'t>)>, AllocError>
+    locals: &[(ArcStr, Answer)],
+) -> Result<Vec<(ArcStr, Placed<'t>)>, AllocError>
     ensures { IfOk result (λ v. known_view v.items ≡ (around (locals_view locals.now)).locals) }
 {
     let mut known = Vec::new(alloc);
@@ -68,10 +68,10 @@ pub(super) fn bare_locals<'t>(
 pub(super) fn turn_scope<'t>(
     alloc: Global,
     parts: &Comprehension,
-    known: &[(RcStr, Placed<'t>)],
+    known: &[(ArcStr, Placed<'t>)],
     turn: &Turn,
     gathered: &Placed<'t>,
-) -> Result<Vec<(RcStr, Placed<'t>)>, AllocError>
+) -> Result<Vec<(ArcStr, Placed<'t>)>, AllocError>
     ensures { IfOk result (λ v. known_view v.items
         ≡ turn_scope (text_view parts.now.iter_var) (text_view parts.now.iter_var2) (text_view parts.now.accu_var)
         (map bare (turn_view turn.now)) (placed_view gathered.now) (known_view known.now)) }
@@ -91,10 +91,10 @@ pub(super) fn turn_scope<'t>(
 fn with_both<'t>(
     alloc: Global,
     parts: &Comprehension,
-    known: &[(RcStr, Placed<'t>)],
+    known: &[(ArcStr, Placed<'t>)],
     first: &Answer,
     second: &Placed<'t>,
-) -> Result<Vec<(RcStr, Placed<'t>)>, AllocError>
+) -> Result<Vec<(ArcStr, Placed<'t>)>, AllocError>
     ensures { IfOk result (λ v. known_view v.items
         ≡ (text_view parts.now.iter_var2, placed_view second.now)
         ∷ (text_view parts.now.iter_var, bare (answer_view first.now)) ∷ known_view known.now) }
@@ -105,7 +105,7 @@ fn with_both<'t>(
 }
 
 /// How many variables a comprehension has, by its second name.
-pub(super) fn variables_of(name: &RcStr) -> Variables
+pub(super) fn variables_of(name: &ArcStr) -> Variables
     ensures { result ≡ variables_of (text_view name.now) }
 {
     if is_nameless(name) {
@@ -114,14 +114,17 @@ pub(super) fn variables_of(name: &RcStr) -> Variables
     Variables::Two
 }
 
-fn is_nameless(name: &RcStr) -> bool
+fn is_nameless(name: &ArcStr) -> bool
     ensures { IsTrue result ↔ (text_view name.now ≡ []) }
 {
     name.as_str().is_empty()
 }
 
 /// The answer of the innermost local of a name.
-pub(super) fn find<'k, 't>(known: &'k [(RcStr, Placed<'t>)], name: &RcStr) -> Option<&'k Placed<'t>>
+pub(super) fn find<'k, 't>(
+    known: &'k [(ArcStr, Placed<'t>)],
+    name: &ArcStr,
+) -> Option<&'k Placed<'t>>
     ensures { option_map (λ a. placed_view a.now) result ≡ local (text_view name.now) (known_view known.now) }
 {
     for (own, answer) in known {
@@ -132,14 +135,14 @@ pub(super) fn find<'k, 't>(known: &'k [(RcStr, Placed<'t>)], name: &RcStr) -> Op
     None
 }
 
-fn same_names(left: &RcStr, right: &RcStr) -> bool
+fn same_names(left: &ArcStr, right: &ArcStr) -> bool
     ensures { result ≡ bytes_eq (text_view left.now) (text_view right.now) }
 {
     left == right
 }
 
 /// The root that an expression is; none if it is anything but a root that no local hides.
-pub(super) fn bare_root<'r>(tree: &'r Tree, known: &[(RcStr, Placed<'_>)]) -> Option<&'r RcStr>
+pub(super) fn bare_root<'r>(tree: &'r Tree, known: &[(ArcStr, Placed<'_>)]) -> Option<&'r ArcStr>
     ensures { option_map (λ name. text_view name.now) result ≡ root_of (tree_view tree.now) (known_view known.now) }
 {
     let Tree::Ident { name, .. } = tree else {
@@ -151,7 +154,7 @@ pub(super) fn bare_root<'r>(tree: &'r Tree, known: &[(RcStr, Placed<'_>)]) -> Op
     None
 }
 
-fn is_bare_root(name: &RcStr, known: &[(RcStr, Placed<'_>)]) -> bool
+fn is_bare_root(name: &ArcStr, known: &[(ArcStr, Placed<'_>)]) -> bool
     ensures { result ≡ bare_root (text_view name.now) (known_view known.now) }
 {
     if find(known, name).is_some() {

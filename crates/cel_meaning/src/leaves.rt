@@ -16,7 +16,7 @@ use cel_tree::Constant;
 use cel_types::{attribute_named, joined_name};
 use cel_value::{Answer, CelError, Map, Value, copy_answer};
 use std::alloc::{AllocError, Global};
-use std::rc::RcStr;
+use std::sync::ArcStr;
 
 /// A constant as a value that shares its text or bytes.
 pub(super) fn constant_value(constant: &Constant) -> Result<Value, AllocError>
@@ -34,7 +34,7 @@ pub(super) fn constant_value(constant: &Constant) -> Result<Value, AllocError>
 /// The answer of a name: of the local of that name, if there is one, or of the attribute.
 pub(super) fn name_answer(
     alloc: Global,
-    name: &RcStr,
+    name: &ArcStr,
     request: &Request,
     local: Option<&Placed<'_>>,
 ) -> Result<Option<Answer>, AllocError>
@@ -50,8 +50,8 @@ pub(super) fn name_answer(
 /// The answer of a root's attribute.
 pub(super) fn field_answer(
     alloc: Global,
-    root: &RcStr,
-    field: &RcStr,
+    root: &ArcStr,
+    field: &ArcStr,
     request: &Request,
 ) -> Result<Option<Answer>, AllocError>
     ensures { IfOk result (λ found. option_map answer_view found ≡ attribute_answer request.now
@@ -90,7 +90,7 @@ fn copy_value(alloc: Global, found: AttrValue<'_>) -> Result<Value, AllocError>
     ensures { IfOk result (λ value. value_view value ≡ attribute_value (attr_view found.entry)) }
 {
     match found {
-        AttrValue::Text(text) => Ok(Value::Text(RcStr::from_str(alloc, text)?)),
+        AttrValue::Text(text) => Ok(Value::Text(ArcStr::from_str(alloc, text)?)),
         AttrValue::Int(n) => Ok(Value::Int(n)),
         AttrValue::Uint(n) => Ok(Value::Uint(n)),
         AttrValue::Bool(b) => Ok(Value::Bool(b)),

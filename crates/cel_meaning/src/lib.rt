@@ -31,7 +31,7 @@ use cel_value::Answer;
 use nodes::eval;
 pub use place::{Place, Placed};
 use std::alloc::Global;
-use std::rc::RcStr;
+use std::sync::ArcStr;
 pub use stopped::Stopped;
 
 /// The answer of an expression for a request and these locals, the innermost first. If it is an error, with where it
@@ -41,7 +41,7 @@ pub fn evaluate_plainly<'t>(
     alloc: Global,
     tree: &'t Tree,
     request: &Request,
-    locals: &[(RcStr, Answer)],
+    locals: &[(ArcStr, Answer)],
     most: u64,
 ) -> Result<Option<Placed<'t>>, Stopped>
     ensures meaning { IfOk result (λ found. option_map (λ a. answer_view a.answer) found
@@ -57,7 +57,7 @@ fn evaluate<'t>(
     alloc: Global,
     tree: &'t Tree,
     request: &Request,
-    locals: &[(RcStr, Answer)],
+    locals: &[(ArcStr, Answer)],
     most: u64,
 ) -> Result<Option<Placed<'t>>, Stopped>
     ensures { IfOk result (λ found. option_map placed_view found

@@ -20,7 +20,7 @@ use crate::stopped::{Stopped, spend};
 use crate::unary::{has_field, select_field};
 use cel_tree::{Comprehension, Tree, TreeEntry};
 use cel_value::{Answer, Value};
-use std::rc::{Rc, RcStr};
+use std::sync::{Arc, ArcStr};
 
 /// What a turn of a comprehension does.
 #[derive(Drop)]
@@ -92,10 +92,10 @@ pub(super) fn eval<'t>(
 fn eval_select<'t>(
     around: &Around<'_, 't>,
     operand: &'t Tree,
-    field: &RcStr,
+    field: &ArcStr,
     test_only: bool,
     left: &mut u64,
-) -> Result<(Option<Answer>, Option<Rc<Place<'t>>>), Stopped>
+) -> Result<(Option<Answer>, Option<Arc<Place<'t>>>), Stopped>
     ensures { let c = around_view around.now in let on = placed around.now.request.now c (tree_view operand.now) in
         let root = root_of (tree_view operand.now) c.locals in
         IfOk result (λ found. (option_map answer_view found.0 ≡ select_answer around.now.request.now root

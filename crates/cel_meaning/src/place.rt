@@ -10,7 +10,7 @@ ghost use Rattle.cel_meaning.specs.steps.Plain.{shared_view};
 use cel_tree::Tree;
 use cel_value::{Answer, Value, copy_answer};
 use std::alloc::{AllocError, Global};
-use std::rc::{Rc, RcStr};
+use std::sync::{Arc, ArcStr};
 
 /// Where an error begins.
 #[derive(Drop)]
@@ -20,14 +20,14 @@ pub struct Place<'t> {
     /// The numbers of the turns around it, from 0, the innermost first.
     pub turns: Vec<usize>,
     /// The names and answers of the locals there, the innermost first.
-    pub locals: Vec<(RcStr, Answer)>,
+    pub locals: Vec<(ArcStr, Answer)>,
 }
 
 /// An answer, and where it begins if it is an error.
 #[derive(Drop)]
 pub struct Placed<'t> {
     pub answer: Answer,
-    pub place: Option<Rc<Place<'t>>>,
+    pub place: Option<Arc<Place<'t>>>,
 }
 
 impl<'t> Placed<'t> {
@@ -64,8 +64,8 @@ impl<'t> Placed<'t> {
 
 /// Another owner of the same place.
 pub(crate) fn copy_place<'t>(
-    place: &Option<Rc<Place<'t>>>,
-) -> Result<Option<Rc<Place<'t>>>, AllocError>
+    place: &Option<Arc<Place<'t>>>,
+) -> Result<Option<Arc<Place<'t>>>, AllocError>
     ensures { IfOk result (λ copy. shared_view copy ≡ shared_view place.now) }
 {
     match place {
@@ -75,7 +75,7 @@ pub(crate) fn copy_place<'t>(
 }
 
 /// The leftmost place.
-pub(crate) fn first_place<'t>(operands: &[Placed<'t>]) -> Result<Option<Rc<Place<'t>>>, AllocError>
+pub(crate) fn first_place<'t>(operands: &[Placed<'t>]) -> Result<Option<Arc<Place<'t>>>, AllocError>
     ensures { IfOk result (λ found. shared_view found ≡ first_place (map placed_view operands.now)) }
 {
     for operand in operands {

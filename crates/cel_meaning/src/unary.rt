@@ -14,7 +14,7 @@ ghost use Rattle.cel_value.specs.View.{answer_view};
 use cel_ops::{Conversion, convert};
 use cel_value::{Answer, Value};
 use std::alloc::{AllocError, Global};
-use std::rc::RcStr;
+use std::sync::ArcStr;
 
 /// `!`.
 pub(super) fn logical_not(operand: &Answer) -> Option<Answer>
@@ -128,7 +128,7 @@ pub(super) fn to_bytes(alloc: Global, operand: &Answer) -> Result<Option<Answer>
 }
 
 /// `m.name`.
-pub(super) fn select_field(name: &RcStr, operand: &Answer) -> Result<Option<Answer>, AllocError>
+pub(super) fn select_field(name: &ArcStr, operand: &Answer) -> Result<Option<Answer>, AllocError>
     ensures { IfOk result (λ found.
         option_map answer_view found ≡ field (text_view name.now) (answer_view operand.now)) }
 {
@@ -145,7 +145,7 @@ pub(super) fn select_field(name: &RcStr, operand: &Answer) -> Result<Option<Answ
 }
 
 /// `has(m.name)`.
-pub(super) fn has_field(name: &RcStr, operand: &Answer) -> Option<Answer>
+pub(super) fn has_field(name: &ArcStr, operand: &Answer) -> Option<Answer>
     ensures { option_map answer_view result ≡ has_field (text_view name.now) (answer_view operand.now) }
 {
     match operand {

@@ -1,6 +1,6 @@
 -- The pairs that comprehensions of two variables go over, by their number.
 use Rattle.std.proofs.Common.{◌≡◌, ◌+◌, ◌<◌, ◌≤◌, ℕ, zero, suc, pos, List, [], ◌∷◌, Some, None, length, get_or, slice_get, refl, ap, ◌∙◌, arith}
-use Rattle.std.specs.declared.rc.RcStr.{RcStr}
+use Rattle.std.specs.declared.sync.ArcStr.{ArcStr}
 use Rattle.std.specs.declared.alloc.Global.{Global}
 use Rattle.cel_value.specs.Values.{CelValues, no_items, item, CelEntries, no_entries, entry, text, value, value_of_key}
 use Rattle.cel_value.specs.Texts.{text_view}
@@ -39,7 +39,7 @@ entry_pair_at [] i d below = absurd (omega arith)
 entry_pair_at (e ∷ es) zero d below = refl
 entry_pair_at (e ∷ es) (suc i) d below = entry_pair_at es i d (omega arith)
 
-pub text_pair_at : (ps : List (RcStr Global × RcStr Global)) (i : ℕ) (d : RcStr Global × RcStr Global)
+pub text_pair_at : (ps : List (ArcStr Global × ArcStr Global)) (i : ℕ) (d : ArcStr Global × ArcStr Global)
     → i < length ps → slice_get (keyed (pairs_view ps)) i
     ≡ Some (value (text (text_view (get_or ps i d).0)), text (text_view (get_or ps i d).1))
 text_pair_at [] i d below = absurd (omega arith)

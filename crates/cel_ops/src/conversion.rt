@@ -1,7 +1,7 @@
 //! Conversions between uint, int, string and bytes (CEL language definition, "List of Standard Definitions").
 
 ghost use Rattle.std.specs.Prelude.{◌≡◌, ◌≢◌, false, IfErr, IfOk, MatchResult, None, Some, true};
-ghost use Rattle.std.specs.Rc.{rc_slice_items};
+ghost use Rattle.std.specs.Arc.{arc_slice_items};
 ghost use Rattle.std.specs.Str.{is_utf8};
 ghost use Rattle.cel_value.specs.Texts.{text_view, utf8_of};
 ghost use Rattle.cel_value.specs.Values.{text, value};
@@ -11,8 +11,8 @@ ghost use Rattle.cel_ops.specs.Conversions.{MakesText, conversion, conversion_of
 
 use cel_value::{Answer, CelError, Value};
 use std::alloc::{AllocError, Global};
-use std::rc::{RcSlice, RcStr};
 use std::str;
+use std::sync::{ArcSlice, ArcStr};
 
 /// A conversion: what is converted, and to what.
 #[derive(Clone, Copy, PartialEq, Eq, Debug)]
@@ -84,18 +84,18 @@ fn uint_of_int(i: i64) -> Answer
     }
 }
 
-fn int_text(alloc: Global, i: i64) -> Result<RcStr, AllocError>
+fn int_text(alloc: Global, i: i64) -> Result<ArcStr, AllocError>
     ensures found { IfOk result (λ t. Some (value (text (text_view t))) ≡ text_of_int i) }
     ensures memory { IfErr result (λ e. MakesText (text_of_int i)) }
 {
-    Ok(RcStr::from_string(format!(in alloc; "{i}")?)?)
+    Ok(ArcStr::from_string(format!(in alloc; "{i}")?)?)
 }
 
-fn uint_text(alloc: Global, n: u64) -> Result<RcStr, AllocError>
+fn uint_text(alloc: Global, n: u64) -> Result<ArcStr, AllocError>
     ensures found { IfOk result (λ t. Some (value (text (text_view t))) ≡ text_of_uint n) }
     ensures memory { IfErr result (λ e. MakesText (text_of_uint n)) }
 {
-    Ok(RcStr::from_string(format!(in alloc; "{n}")?)?)
+    Ok(ArcStr::from_string(format!(in alloc; "{n}")?)?)
 }
 
 fn text_of_bytes(alloc: Global, bytes: &[u8]) -> Result<Answer, AllocError>
@@ -103,7 +103,7 @@ fn text_of_bytes(alloc: Global, bytes: &[u8]) -> Result<Answer, AllocError>
     ensures memory { IfErr result (λ e. MakesText (Some (text_of_bytes bytes.now))) }
 {
     match valid_text(bytes) {
-        Ok(text) => Ok(Ok(Value::Text(RcStr::from_str(alloc, text)?))),
+        Ok(text) => Ok(Ok(Value::Text(ArcStr::from_str(alloc, text)?))),
         Err(error) => Ok(Err(error)),
     }
 }
@@ -119,8 +119,8 @@ fn valid_text(bytes: &[u8]) -> Result<&str, CelError>
     }
 }
 
-fn text_bytes(alloc: Global, text: &RcStr) -> Result<RcSlice<u8>, AllocError>
-    ensures { IfOk result (λ bytes. rc_slice_items bytes ≡ utf8_of (text_view text.now)) }
+fn text_bytes(alloc: Global, text: &ArcStr) -> Result<ArcSlice<u8>, AllocError>
+    ensures { IfOk result (λ bytes. arc_slice_items bytes ≡ utf8_of (text_view text.now)) }
 {
-    RcSlice::from_slice(alloc, text.as_str().as_bytes())
+    ArcSlice::from_slice(alloc, text.as_str().as_bytes())
 }

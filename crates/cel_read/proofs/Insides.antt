@@ -2,7 +2,7 @@
 use Rattle.std.proofs.Common.{◌≡◌, ◌-◌, ◌+◌, ◌<◌, ◌++◌, ◌∙◌, inl, inr, ℕ, zero, suc, ℤ, List, [], ◌∷◌, Bor, length, take, get_or, Option, Some, None, SFits, w64, to_z, of_z, to_z-of_z, rules, arith, refl, ap, ap₂, subst}
 use Rattle.std.specs.declared.alloc.Global.{Global}
 use Rattle.std.specs.declared.boxed.Box.{Box}
-use Rattle.std.specs.declared.rc.RcStr.{RcStr}
+use Rattle.std.specs.declared.sync.ArcStr.{ArcStr}
 use Rattle.std.specs.declared.vec.Vec.{Vec}
 use Rattle.proto_wire.specs.Merge.{parts_view}
 use Rattle.proto_wire.specs.Places.{Path}
@@ -29,14 +29,14 @@ use Rattle.cel_read.proofs.Counting.{made_count}
 view_constant : (id : ℤ) (c : constants.Constant) → tree_view (Constant id c) ≡ constant id (constant_view c)
 view_constant id c = search (rules, the_lemmas)
 
-view_ident : (id : ℤ) (n : RcStr Global) → tree_view (Ident id n) ≡ ident id (text_view n)
+view_ident : (id : ℤ) (n : ArcStr Global) → tree_view (Ident id n) ≡ ident id (text_view n)
 view_ident id n = search (rules, the_lemmas)
 
-view_select : (id : ℤ) (o : Box Tree Global) (f : RcStr Global) (t : _)
+view_select : (id : ℤ) (o : Box Tree Global) (f : ArcStr Global) (t : _)
     → tree_view (Select id o f t) ≡ select id (tree_view o.value) (text_view f) t
 view_select id o f t = search (rules, the_lemmas)
 
-view_call : (id : ℤ) (f : RcStr Global) (on : Option (Box Tree Global)) (args : Vec Tree Global)
+view_call : (id : ℤ) (f : ArcStr Global) (on : Option (Box Tree Global)) (args : Vec Tree Global)
     → tree_view (Call id f on args) ≡ call id (text_view f) (target_of (boxed_view on)) (trees_view args.items)
 view_call id f None args = search (rules, the_lemmas)
 view_call id f (Some on) args = search (rules, the_lemmas)
@@ -57,11 +57,11 @@ module _ (depth : ℕ) (id : ℤ) (fits : SFits w64 id) where
       → Inside depth id (constant_node (constant_view c)) (tree_view (Constant (to_z w64 (of_z w64 id)) c)) left left
   inside_constant c left = rw (same_id id fits, view_constant id c) (no_trees, tt, refl, omega arith)
 
-  pub inside_ident : (n : RcStr Global) (left : ℕ)
+  pub inside_ident : (n : ArcStr Global) (left : ℕ)
       → Inside depth id (ident_node (text_view n)) (tree_view (Ident (to_z w64 (of_z w64 id)) n)) left left
   inside_ident n left = rw (same_id id fits, view_ident id n) (no_trees, tt, refl, omega arith)
 
-  pub inside_select : (o : Parts) (b : Box Tree Global) (f : RcStr Global) (t : _) (rest left : ℕ)
+  pub inside_select : (o : Parts) (b : Box Tree Global) (f : ArcStr Global) (t : _) (rest left : ℕ)
       → IsTree depth o (tree_view b.value) → rest + node_count (tree_view b.value) ≡ left
       → Inside depth id (select_node o (text_view f) t) (tree_view (Select (to_z w64 (of_z w64 id)) b f t)) rest left
   inside_select o b f t rest left is sum =
@@ -77,7 +77,7 @@ module _ (depth : ℕ) (id : ℤ) (fits : SFits w64 id) where
   call_inside name (p ∷ ps) args (Some t) ts rest mid left at sum are more =
       (tree t ts, (at, are), refl, omega (arith, sum, more))
 
-  pub inside_call : (f : RcStr Global) (on : Parts) (args : List (List ℕ)) (o : Option (Box Tree Global)) (ts : Vec Tree Global)
+  pub inside_call : (f : ArcStr Global) (on : Parts) (args : List (List ℕ)) (o : Option (Box Tree Global)) (ts : Vec Tree Global)
       (rest mid left : ℕ) → IsTarget depth on (boxed_view o) → mid + target_nodes (boxed_view o) ≡ left
       → AreTrees (IsTree depth) (singles args) (trees_view ts.items) → rest + trees_count (trees_view ts.items) ≡ mid
       → Inside depth id (call_node (text_view f) on args) (tree_view (Call (to_z w64 (of_z w64 id)) f o ts)) rest left

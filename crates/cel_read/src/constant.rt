@@ -17,7 +17,7 @@ use proto_wire::{
     read_message, text_at,
 };
 use std::alloc::Global;
-use std::rc::{RcSlice, RcStr};
+use std::sync::{ArcSlice, ArcStr};
 
 const NULL_VALUE: u32 = 1;
 
@@ -110,11 +110,11 @@ fn constant_in(alloc: Global, last: LastConstant, run: &[Field<'_>]) -> Result<C
         ConstantKind::Uint => Ok(Constant::Uint(last_varint(run, last.number).unwrap_or(0))),
         ConstantKind::Text => {
             let text = text_at(run, last.number)?;
-            Ok(Constant::Text(RcStr::from_str(alloc, text)?))
+            Ok(Constant::Text(ArcStr::from_str(alloc, text)?))
         }
         ConstantKind::Bytes => {
             let bytes = bytes_at(run, last.number);
-            Ok(Constant::Bytes(RcSlice::from_slice(alloc, bytes)?))
+            Ok(Constant::Bytes(ArcSlice::from_slice(alloc, bytes)?))
         }
     }
 }

@@ -12,7 +12,7 @@ ghost use Rattle.proto_wire.specs.Oneof.{member_run};
 
 use proto_wire::{Field, Key, Payloads, Refusal, member_run, payloads_of, text_at};
 use std::alloc::{AllocError, Global};
-use std::rc::RcStr;
+use std::sync::ArcStr;
 
 /// The number itself.
 pub(crate) fn number_of(number: &i64) -> i64
@@ -24,13 +24,13 @@ pub(crate) fn number_of(number: &i64) -> i64
 
 /// A copy of the text of this number.
 #[inline(always)]
-pub(crate) fn name_at(alloc: Global, fields: &[Field<'_>], number: u32) -> Result<RcStr, Refusal>
+pub(crate) fn name_at(alloc: Global, fields: &[Field<'_>], number: u32) -> Result<ArcStr, Refusal>
     ensures found { let bytes = bytes_at number (map field_view fields.now) in
         IfOk result (λ name. (text_view name ≡ points_of bytes) × IsUtf8 bytes) }
     ensures fault { IfErr result (MemoryOr (Utf8Fault (bytes_at number (map field_view fields.now)))) }
 {
     let text = text_at(fields, number)?;
-    Ok(RcStr::from_str(alloc, text)?)
+    Ok(ArcStr::from_str(alloc, text)?)
 }
 
 /// The payloads of this number in the run of a oneof's last member; the oneof's members have these keys.

@@ -17,7 +17,7 @@ use proto_wire::{
     Field, Key, Payloads, Refusal, keys, payloads_of, read_message, require_payload, text_at,
 };
 use std::alloc::{AllocError, Global};
-use std::rc::RcStr;
+use std::sync::ArcStr;
 
 const ITER_VAR: u32 = 1;
 
@@ -43,9 +43,9 @@ static COMPREHENSION: [Key; 8] = keys![
 /// A comprehension whose own message is read; the expressions inside are unread parts.
 #[derive(Drop)]
 pub(crate) struct LoopNode<'a> {
-    pub iter_var: RcStr,
-    pub iter_var2: RcStr,
-    pub accu_var: RcStr,
+    pub iter_var: ArcStr,
+    pub iter_var2: ArcStr,
+    pub accu_var: ArcStr,
     pub iter_range: Payloads<'a>,
     pub accu_init: Payloads<'a>,
     pub loop_condition: Payloads<'a>,

@@ -20,7 +20,7 @@ use crate::operands::{read_call, read_ident, read_select};
 use cel_tree::{Constant, NODE_ID, NodeKind};
 use proto_wire::{Field, Key, Payloads, Refusal, int64_at, keys, last_number, read_message};
 use std::alloc::Global;
-use std::rc::RcStr;
+use std::sync::ArcStr;
 
 const CONST_EXPR: u32 = 3;
 
@@ -51,15 +51,15 @@ static KINDS: [Key; 7] = keys![
 #[derive(Drop)]
 pub(crate) enum Node<'a> {
     Constant(Constant),
-    Ident(RcStr),
+    Ident(ArcStr),
     Select {
         operand: Payloads<'a>,
-        field: RcStr,
+        field: ArcStr,
         test_only: bool,
     },
     /// A call without a target has no parts of it.
     Call {
-        function: RcStr,
+        function: ArcStr,
         target: Payloads<'a>,
         args: Payloads<'a>,
     },

@@ -15,7 +15,7 @@ use proto_wire::{
     Field, Key, Refusal, bool_at, keys, payloads_of, read_message, require_payload, text_at,
 };
 use std::alloc::Global;
-use std::rc::RcStr;
+use std::sync::ArcStr;
 
 /// The field of an Ident.
 const NAME: u32 = 1;
@@ -74,7 +74,7 @@ fn select_of<'a>(alloc: Global, fields: &[Field<'a>]) -> Result<Node<'a>, Refusa
     let name = text_at(fields, FIELD)?;
     require_payload(fields, OPERAND)?;
     let operand = payloads_of(alloc, fields, OPERAND)?;
-    let field = RcStr::from_str(alloc, name)?;
+    let field = ArcStr::from_str(alloc, name)?;
     let test_only = bool_at(fields, TEST_ONLY);
     Ok(Node::Select {
         operand,

@@ -25,7 +25,7 @@ use crate::node_id::fault_of_expr;
 use cel_tree::{Comprehension, Tree, TreeEntry, both};
 use proto_wire::{Fault, Payloads, Refusal, require_level};
 use std::alloc::{AllocError, Global};
-use std::rc::RcStr;
+use std::sync::ArcStr;
 
 /// Reads a tree of at most `depth` levels and `left` nodes from its parts. Tests both limits before it reads
 /// anything of a node.
@@ -102,7 +102,7 @@ fn select_tree(
     alloc: Global,
     id: i64,
     operand: &Payloads<'_>,
-    field: RcStr,
+    field: ArcStr,
     test_only: bool,
     depth: u32,
     left: &mut u32,
@@ -127,7 +127,7 @@ fn select_tree(
 fn call_tree(
     alloc: Global,
     id: i64,
-    function: RcStr,
+    function: ArcStr,
     target: &Payloads<'_>,
     args: &Payloads<'_>,
     depth: u32,
@@ -355,7 +355,7 @@ fn read_two(
 }
 
 /// The names of a comprehension.
-fn names_of(node: &LoopNode<'_>) -> Result<(RcStr, RcStr, RcStr), AllocError>
+fn names_of(node: &LoopNode<'_>) -> Result<(ArcStr, ArcStr, ArcStr), AllocError>
     ensures { IfOk result (λ names. (text_view names.0 ≡ text_view node.now.iter_var)
         × (text_view names.1 ≡ text_view node.now.iter_var2)
         × (text_view names.2 ≡ text_view node.now.accu_var)) }

@@ -17,7 +17,7 @@ use crate::constant::read_constant;
 use cel_tree::{Constant, Reference};
 use proto_wire::{Field, Key, Refusal, keys, payloads_of, read_message, text_at, text_of};
 use std::alloc::{AllocError, Global};
-use std::rc::RcStr;
+use std::sync::ArcStr;
 
 const NAME: u32 = 1;
 
@@ -69,13 +69,13 @@ fn value_of(alloc: Global, fields: &[Field<'_>]) -> Result<Option<Constant>, Ref
 }
 
 /// A copy of a name; none if it is empty, as the names of functions are.
-fn kept_name(alloc: Global, name: &str) -> Result<Option<RcStr>, AllocError>
+fn kept_name(alloc: Global, name: &str) -> Result<Option<ArcStr>, AllocError>
     ensures { IfOk result (λ kept. name_view kept ≡ points_of name.now) }
 {
     if name.is_empty() {
         return Ok(None);
     }
-    Ok(Some(RcStr::from_str(alloc, name)?))
+    Ok(Some(ArcStr::from_str(alloc, name)?))
 }
 
 /// Refuses payloads if one is not UTF-8.

@@ -14,7 +14,7 @@ use cel_tree::TypeEntry;
 use cel_value::CelType;
 use proto_wire::{Payloads, Refusal, require_level};
 use std::alloc::{AllocError, Global};
-use std::rc::Rc;
+use std::sync::Arc;
 
 /// Reads a Type of at most `depth` levels from its parts. Tests the limit before it reads anything of the type.
 #[cycle(type_entry)]
@@ -77,7 +77,7 @@ fn list_entry(alloc: Global, item: TypeEntry) -> Result<TypeEntry, AllocError>
     ensures { IfOk result (λ entry. type_entry_view entry ≡ list_entry (type_entry_view item)) }
 {
     match item {
-        TypeEntry::Type(item) => Ok(TypeEntry::Type(CelType::List(Rc::new(alloc, item)?))),
+        TypeEntry::Type(item) => Ok(TypeEntry::Type(CelType::List(Arc::new(alloc, item)?))),
         TypeEntry::Dyn | TypeEntry::Unsupported => Ok(TypeEntry::Unsupported),
     }
 }
@@ -88,7 +88,7 @@ fn map_entry(alloc: Global, keys: TypeEntry, values: TypeEntry) -> Result<TypeEn
 {
     match (keys, values) {
         (TypeEntry::Type(keys), TypeEntry::Type(values)) => match keys.key_type() {
-            Some(keys) => Ok(TypeEntry::Type(CelType::Map(keys, Rc::new(alloc, values)?))),
+            Some(keys) => Ok(TypeEntry::Type(CelType::Map(keys, Arc::new(alloc, values)?))),
             None => Ok(TypeEntry::Unsupported),
         },
         _ => Ok(TypeEntry::Unsupported),

@@ -1,10 +1,10 @@
 -- The trees, entries and constants that values of the code mean.
 use Rattle.std.specs.Prelude.{ℕ, ℤ, List, [], ◌∷◌, Option, Some, None, map, option_map}
-use Rattle.std.specs.Rc.{rc_slice_items}
+use Rattle.std.specs.Arc.{arc_slice_items}
 use Rattle.std.specs.FinMap.{FinMap, from_entries}
 use Rattle.std.specs.Ordering.{int_cmp}
 use Rattle.std.specs.declared.alloc.Global.{Global}
-use Rattle.std.specs.declared.rc.RcStr.{RcStr}
+use Rattle.std.specs.declared.sync.ArcStr.{ArcStr}
 use Rattle.cel_value.specs.Texts.{text_view}
 use Rattle.cel_value.specs.Types.{type_view}
 use Rattle.cel_value.specs.Values.{CelValue, bool, int, uint, text, bytes}
@@ -29,7 +29,7 @@ constant_view (constants.Bool b) = bool b
 constant_view (constants.Int i) = int i
 constant_view (constants.Uint n) = uint n
 constant_view (constants.Text t) = text (text_view t)
-constant_view (constants.Bytes bs) = bytes (rc_slice_items bs)
+constant_view (constants.Bytes bs) = bytes (arc_slice_items bs)
 
 -- the entry that a `TypeEntry` means
 abbrev pub type_entry_view : TypeEntry → CelTypeEntry
@@ -38,7 +38,7 @@ type_entry_view entries.Dyn = dyn_type
 type_entry_view entries.Unsupported = unsupported_type
 
 -- a name; an empty one is not kept
-abbrev pub name_view : Option (RcStr Global) → List ℕ
+abbrev pub name_view : Option (ArcStr Global) → List ℕ
 name_view None = []
 name_view (Some name) = text_view name
 

@@ -8,7 +8,7 @@ use crate::id_map::IdMap;
 use crate::tree::{Constant, Tree};
 use cel_value::CelType;
 use std::alloc::{AllocError, Global};
-use std::rc::RcStr;
+use std::sync::ArcStr;
 
 /// An entry of the type map.
 #[derive(Drop)]
@@ -25,7 +25,7 @@ pub enum TypeEntry {
 #[derive(Drop)]
 pub struct Reference {
     /// The name that the node refers to; none if it is empty.
-    pub name: Option<RcStr>,
+    pub name: Option<ArcStr>,
     /// The value, if the name is that of a constant.
     pub value: Option<Constant>,
 }

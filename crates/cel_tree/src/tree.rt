@@ -1,6 +1,6 @@
 //! Trees of expressions.
 
-use std::rc::{RcSlice, RcStr};
+use std::sync::{ArcSlice, ArcStr};
 
 /// A constant in a tree.
 #[derive(Drop)]
@@ -8,8 +8,8 @@ pub enum Constant {
     Bool(bool),
     Int(i64),
     Uint(u64),
-    Text(RcStr),
-    Bytes(RcSlice<u8>),
+    Text(ArcStr),
+    Bytes(ArcSlice<u8>),
 }
 
 /// An expression (CEL language definition, "Abstract Syntax"): each node has an id.
@@ -23,18 +23,18 @@ pub enum Tree {
     /// A variable by its name.
     Ident {
         id: i64,
-        name: RcStr,
+        name: ArcStr,
     },
     /// The operand's value at a field's name, or, in a test, whether there is one.
     Select {
         id: i64,
         operand: Box<Tree>,
-        field: RcStr,
+        field: ArcStr,
         test_only: bool,
     },
     Call {
         id: i64,
-        function: RcStr,
+        function: ArcStr,
         target: Option<Box<Tree>>,
         args: Vec<Tree>,
     },
@@ -67,11 +67,11 @@ pub struct TreeEntry {
 pub struct Comprehension {
     /// The name of the element, or, if there is a second name, of the index or key, in the condition and in
     /// the step.
-    pub iter_var: RcStr,
+    pub iter_var: ArcStr,
     /// The second name, of the item or value, in the condition and in the step; empty for one variable.
-    pub iter_var2: RcStr,
+    pub iter_var2: ArcStr,
     /// The name of the accumulator, in the condition, in the step and in the result.
-    pub accu_var: RcStr,
+    pub accu_var: ArcStr,
     /// The list or map whose elements are folded.
     pub iter_range: Tree,
     /// The accumulator's initial value.

@@ -10,13 +10,13 @@ use Rattle.cel_tree.specs.declared.tree.Comprehension.{Comprehension}
 use Rattle.cel_tree.specs.declared.tree.Tree.{Tree, the_lemmas as tree_lemmas}
 use Rattle.cel_tree.specs.declared.tree.Tree as trees
 use Rattle.cel_tree.specs.declared.tree.TreeEntry.{TreeEntry}
-use Rattle.std.specs.declared.rc.RcStr.{RcStr}
+use Rattle.std.specs.declared.sync.ArcStr.{ArcStr}
 use Rattle.cel_value.specs.Texts.{text_view}
 
-pub tree_ident : (id : ℤ) (n : RcStr Global) → tree_view (trees.Ident id n) ≡ ident id (text_view n)
+pub tree_ident : (id : ℤ) (n : ArcStr Global) → tree_view (trees.Ident id n) ≡ ident id (text_view n)
 tree_ident id n = search (rules, tree_lemmas)
 
-pub tree_call : (id : ℤ) (f : RcStr Global) (on : Option (Box Tree Global)) (ts : Vec Tree Global)
+pub tree_call : (id : ℤ) (f : ArcStr Global) (on : Option (Box Tree Global)) (ts : Vec Tree Global)
     → tree_view (trees.Call id f on ts)
     ≡ call id (text_view f) (target_of (boxed_view on)) (trees_view ts.items)
 tree_call id f on ts = search (rules, tree_lemmas)

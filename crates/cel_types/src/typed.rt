@@ -9,7 +9,7 @@ use attributes::AttrId;
 use cel_overload::Overload;
 use cel_tree::Constant;
 use cel_value::CelType;
-use std::rc::RcStr;
+use std::sync::ArcStr;
 
 /// A checked expression. Each node has its type; each name is a local or an attribute, and each call
 /// is an overload. Constants and names are lent by the tree.
@@ -33,13 +33,13 @@ pub enum TypedExpr<'a> {
     Field {
         cel_type: CelType,
         map: Box<TypedExpr<'a>>,
-        name: &'a RcStr,
+        name: &'a ArcStr,
     },
     /// Whether a map has a name: `has(m.f)`.
     HasField {
         cel_type: CelType,
         map: Box<TypedExpr<'a>>,
-        name: &'a RcStr,
+        name: &'a ArcStr,
     },
     /// A call; its target, if it has one, is the first operand.
     Call {

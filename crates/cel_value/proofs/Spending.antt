@@ -2,8 +2,8 @@
 use Rattle.std.proofs.Common.{◌≡◌, ℕ, ◌+◌, ◌-◌, ◌≤◌, length, ◌<◌, Option, Some, None, sym, ap, ◌∙◌, arith, inl, inr}
 use Rattle.std.specs.Option.{SomeIff}
 use Rattle.std.specs.Str.{chars, encode_utf8_all}
-use Rattle.std.specs.Rc.{rc_str_bytes}
-use Rattle.std.specs.declared.rc.RcStr.{RcStr}
+use Rattle.std.specs.Arc.{arc_str_bytes}
+use Rattle.std.specs.declared.sync.ArcStr.{ArcStr}
 use Rattle.std.proofs.lemmas.Str.{encodes-chars, IsUtf8-string_bytes}
 use Rattle.std.proofs.lemmas.Bool.{cases_lt}
 use Rattle.std.proofs.lemmas.Bool.Decides.{nat_tests}
@@ -49,15 +49,15 @@ pub left_zero : (n : ℕ) → Some n ≡ left_of n 0
 left_zero n = ap Some (omega arith) ∙ sym (left_enough n 0 (omega arith))
 
 -- the bytes of a text are as many as those of its characters
-pub text_length_fact : {Z : Type 0} (t : RcStr Z) → length (encode_utf8_all (chars (rc_str_bytes t)))
-    ≡ length (rc_str_bytes t)
-text_length_fact t = ap length (encodes-chars (rc_str_bytes t) (IsUtf8-string_bytes t.text.value))
+pub text_length_fact : {Z : Type 0} (t : ArcStr Z) → length (encode_utf8_all (chars (arc_str_bytes t)))
+    ≡ length (arc_str_bytes t)
+text_length_fact t = ap length (encodes-chars (arc_str_bytes t) (IsUtf8-string_bytes t.text.value))
 
 -- one, and then the length of a text
-pub text_spent : {Z : Type 0} (n a len : ℕ) (t : RcStr Z) (r s : Option ℕ) → r ≡ Some a
+pub text_spent : {Z : Type 0} (n a len : ℕ) (t : ArcStr Z) (r s : Option ℕ) → r ≡ Some a
     → SomeIff r (1 ≤ n) (n - 1)
-    → len ≡ length (rc_str_bytes t) → SomeIff s (len ≤ a) (a - len)
-    → s ≡ left_of n (1 + length (encode_utf8_all (chars (rc_str_bytes t))))
+    → len ≡ length (arc_str_bytes t) → SomeIff s (len ≤ a) (a - len)
+    → s ≡ left_of n (1 + length (encode_utf8_all (chars (arc_str_bytes t))))
 text_spent n a len t r s is one counted more =
     left_checked a len s more ∙ ap (left_of a) (counted ∙ sym (text_length_fact t))
     ∙ left_twice n a 1 _ (sym is ∙ left_checked n 1 r one)

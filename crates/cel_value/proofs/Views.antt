@@ -1,9 +1,9 @@
 -- How values, maps and types are seen, constructor by constructor.
 use Rattle.std.proofs.Common.{◌≡◌, ◌+◌, false, rules, refl, sym, ap, ◌∙◌, arith, List, [], ◌∷◌, ◌++◌, length}
-use Rattle.std.specs.Rc.{rc_slice_items}
-use Rattle.std.specs.declared.rc.Rc.{Rc}
-use Rattle.std.specs.declared.rc.RcStr.{RcStr}
-use Rattle.std.specs.declared.rc.RcSlice.{RcSlice}
+use Rattle.std.specs.Arc.{arc_slice_items}
+use Rattle.std.specs.declared.sync.Arc.{Arc}
+use Rattle.std.specs.declared.sync.ArcStr.{ArcStr}
+use Rattle.std.specs.declared.sync.ArcSlice.{ArcSlice}
 use Rattle.std.specs.declared.vec.Vec.{Vec}
 use Rattle.std.specs.declared.alloc.Global.{Global}
 use Rattle.std.specs.Prelude.{ℕ, ℤ, Bool}
@@ -28,31 +28,31 @@ view_int i = search (rules, the_lemmas)
 pub view_uint : (n : ℕ) → value_view (Uint n) ≡ uint n
 view_uint n = search (rules, the_lemmas)
 
-pub view_text : (t : RcStr Global) → value_view (Text t) ≡ text (text_view t)
+pub view_text : (t : ArcStr Global) → value_view (Text t) ≡ text (text_view t)
 view_text t = search (rules, the_lemmas)
 
-pub view_bytes : (b : RcSlice ℕ Global) → value_view (Bytes b) ≡ bytes (rc_slice_items b)
+pub view_bytes : (b : ArcSlice ℕ Global) → value_view (Bytes b) ≡ bytes (arc_slice_items b)
 view_bytes b = search (rules, the_lemmas)
 
-pub view_list : (v : Rc (Vec Value Global) Global) → value_view (ListValue v)
+pub view_list : (v : Arc (Vec Value Global) Global) → value_view (ListValue v)
     ≡ list (values_view v.value.items)
 view_list v = search (rules, the_lemmas)
 
 pub view_map : (m : Map) → value_view (MapValue m) ≡ map_of (map_view m)
 view_map m = search (rules, the_lemmas)
 
-pub view_entries : (v : Rc (Vec (Key × Value) Global) Global) → map_view (Entries v)
+pub view_entries : (v : Arc (Vec (Key × Value) Global) Global) → map_view (Entries v)
     ≡ entries_view v.value.items
 view_entries v = search (rules, map_lemmas)
 
-pub view_texts : (v : Rc (Vec (RcStr Global × RcStr Global) Global) Global) → map_view (Texts v)
+pub view_texts : (v : Arc (Vec (ArcStr Global × ArcStr Global) Global) Global) → map_view (Texts v)
     ≡ pairs_view v.value.items
 view_texts v = search (rules, map_lemmas)
 
-pub view_list_type : (t : Rc CelType Global) → type_view (ListType t) ≡ list_type (type_view t.value)
+pub view_list_type : (t : Arc CelType Global) → type_view (ListType t) ≡ list_type (type_view t.value)
 view_list_type t = search (rules, type_lemmas)
 
-pub view_map_type : (k : KeyType) (t : Rc CelType Global) → type_view (MapType k t)
+pub view_map_type : (k : KeyType) (t : Arc CelType Global) → type_view (MapType k t)
     ≡ map_type k (type_view t.value)
 view_map_type k t = search (rules, type_lemmas)
 
@@ -66,22 +66,22 @@ pub count_entries : (es : List (Key × Value)) → entry_count (entries_view es)
 count_entries [] = refl
 count_entries (e ∷ es) = ap (λ n. 1 + n) (count_entries es) ∙ omega arith
 
-pub count_pairs : (ps : List (RcStr Global × RcStr Global)) → entry_count (pairs_view ps)
+pub count_pairs : (ps : List (ArcStr Global × ArcStr Global)) → entry_count (pairs_view ps)
     ≡ length ps
 count_pairs [] = refl
 count_pairs (p ∷ ps) = ap (λ n. 1 + n) (count_pairs ps) ∙ omega arith
 
 -- what a map's own items say of it
 
-pub seen_entries : (m : Map) (v : Rc (Vec (Key × Value) Global) Global) (w : Vec
+pub seen_entries : (m : Map) (v : Arc (Vec (Key × Value) Global) Global) (w : Vec
     (Key × Value) Global)
     (es : List (Key × Value)) → m ≡ Entries v → w ≡ v.value → es ≡ w.items
     → entries_view es ≡ map_view m
 seen_entries m v w es is at items =
     ap entries_view (items ∙ ap (λ u. u.items) at) ∙ sym (ap map_view is ∙ view_entries v)
 
-pub seen_texts : (m : Map) (v : Rc (Vec (RcStr Global × RcStr Global) Global) Global)
-    (w : Vec (RcStr Global × RcStr Global) Global) (ps : List (RcStr Global × RcStr Global))
+pub seen_texts : (m : Map) (v : Arc (Vec (ArcStr Global × ArcStr Global) Global) Global)
+    (w : Vec (ArcStr Global × ArcStr Global) Global) (ps : List (ArcStr Global × ArcStr Global))
     → m ≡ Texts v → w ≡ v.value → ps ≡ w.items → pairs_view ps ≡ map_view m
 seen_texts m v w ps is at items =
     ap pairs_view (items ∙ ap (λ u. u.items) at) ∙ sym (ap map_view is ∙ view_texts v)
@@ -103,7 +103,7 @@ view_text_type = search (rules, type_lemmas)
 pub view_bytes_type : type_view BytesType ≡ bytes_type
 view_bytes_type = search (rules, type_lemmas)
 
-pub no_list : (t : CelType) → ((x : Rc CelType Global) → t ≡ ListType x → ⊥) → (s : ValueType)
+pub no_list : (t : CelType) → ((x : Arc CelType Global) → t ≡ ListType x → ⊥) → (s : ValueType)
     → false ≡ type_eq (list_type s) (type_view t)
 no_list BoolType h s = rw view_bool_type refl
 no_list IntType h s = rw view_int_type refl
@@ -113,7 +113,7 @@ no_list BytesType h s = rw view_bytes_type refl
 no_list (ListType' p t) h s = absurd (h (record { ptr = p.ptr; value = t }) refl)
 no_list (MapType' k p t) h s = rw (view_map_type k (record { ptr = p.ptr; value = t })) refl
 
-pub no_map : (t : CelType) → ((k : KeyType) (x : Rc CelType Global) → t ≡ MapType k x → ⊥)
+pub no_map : (t : CelType) → ((k : KeyType) (x : Arc CelType Global) → t ≡ MapType k x → ⊥)
     → (k : KeyType) (s : ValueType) → false ≡ type_eq (map_type k s) (type_view t)
 no_map BoolType h k s = rw view_bool_type refl
 no_map IntType h k s = rw view_int_type refl

@@ -2,8 +2,8 @@
 -- Values".
 use Rattle.std.specs.Prelude.{ℕ, ◌≡◌, true, List}
 use Rattle.std.specs.Str.{chars, encode_utf8_all, all_scalars}
-use Rattle.std.specs.Rc.{rc_str_bytes}
-use Rattle.std.specs.declared.rc.RcStr.{RcStr}
+use Rattle.std.specs.Arc.{arc_str_bytes}
+use Rattle.std.specs.declared.sync.ArcStr.{ArcStr}
 use Rattle.std.specs.declared.alloc.Global.{Global}
 
 -- the code points that UTF-8 bytes spell
@@ -19,5 +19,5 @@ abbrev pub AreScalars : List ℕ → Type 0
 AreScalars cs = all_scalars cs ≡ true
 
 -- the code points of a shared text
-abbrev pub text_view : RcStr Global → List ℕ
-text_view t = points_of (rc_str_bytes t)
+abbrev pub text_view : ArcStr Global → List ℕ
+text_view t = points_of (arc_str_bytes t)

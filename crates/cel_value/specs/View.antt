@@ -1,7 +1,7 @@
 -- The value that a `Value` means.
 use Rattle.std.specs.Prelude.{List, [], ◌∷◌, map, Result, Ok, Err}
-use Rattle.std.specs.Rc.{rc_slice_items}
-use Rattle.std.specs.declared.rc.RcStr.{RcStr}
+use Rattle.std.specs.Arc.{arc_slice_items}
+use Rattle.std.specs.declared.sync.ArcStr.{ArcStr}
 use Rattle.std.specs.declared.alloc.Global.{Global}
 use Rattle.cel_value.specs.Values.{CelKey, bool_key, int_key, uint_key, text_key, CelValue, bool, int, uint, text, bytes, list, map_of, CelValues, no_items, item, CelEntries, no_entries, entry, CelAnswer, value, fails}
 use Rattle.cel_value.specs.Texts.{text_view}
@@ -39,7 +39,7 @@ entries_of [] = no_entries
 entries_of (e ∷ es) = entry (key_view e.0) e.1 (entries_of es)
 
 -- pairs of texts, as a map from text to text
-abbrev pub pairs_view : List (RcStr Global × RcStr Global) → CelEntries
+abbrev pub pairs_view : List (ArcStr Global × ArcStr Global) → CelEntries
 pairs_view [] = no_entries
 pairs_view (p ∷ ps) = entry (text_key (text_view p.0)) (text (text_view p.1)) (pairs_view ps)
 
@@ -54,7 +54,7 @@ value_step (Value-F.Bool b) = bool b
 value_step (Value-F.Int i) = int i
 value_step (Value-F.Uint n) = uint n
 value_step (Value-F.Text t) = text (text_view t)
-value_step (Value-F.Bytes bs) = bytes (rc_slice_items bs)
+value_step (Value-F.Bytes bs) = bytes (arc_slice_items bs)
 value_step (Value-F.List vs) = list (items_of vs.value.items)
 value_step (Value-F.Map es) = map_of es
 

@@ -6,7 +6,7 @@ ghost use Rattle.cel_value.specs.steps.EqualityLaws.{type_eq_equiv};
 ghost use Rattle.cel_value.specs.Types.{is_ordered, key_type_eq, key_type_of, type_eq, type_view};
 
 use std::alloc::AllocError;
-use std::rc::Rc;
+use std::sync::Arc;
 
 /// The type of a map's keys (CEL language definition, "Map Values").
 #[derive(Clone, Copy, PartialEq, Eq, Debug)]
@@ -26,9 +26,9 @@ pub enum CelType {
     Text,
     Bytes,
     /// A list of items of one type.
-    List(Rc<CelType>),
+    List(Arc<CelType>),
     /// A map from keys of one type to values of one type.
-    Map(KeyType, Rc<CelType>),
+    Map(KeyType, Arc<CelType>),
 }
 
 impl CelType {

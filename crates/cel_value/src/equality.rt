@@ -10,10 +10,10 @@ ghost use Rattle.cel_value.specs.Values.{text, text_key};
 ghost use Rattle.cel_value.specs.View.{entries_view, key_view, map_view, pairs_view, value_view, values_view};
 
 use crate::value::{Key, Map, Value};
-use std::rc::RcStr;
+use std::sync::ArcStr;
 
 /// Whether the texts have the same code points; compares their bytes.
-pub fn same_texts(left: &RcStr, right: &RcStr) -> bool
+pub fn same_texts(left: &ArcStr, right: &ArcStr) -> bool
     ensures { result ≡ pointwise nat_eq (text_view left.now) (text_view right.now) }
 {
     left == right
@@ -96,7 +96,7 @@ fn same_entries(left: &[(Key, Value)], right: &[(Key, Value)]) -> bool
     true
 }
 
-fn same_pairs(left: &[(RcStr, RcStr)], right: &[(RcStr, RcStr)]) -> bool
+fn same_pairs(left: &[(ArcStr, ArcStr)], right: &[(ArcStr, ArcStr)]) -> bool
     ensures { result ≡ entries_eq (pairs_view left.now) (pairs_view right.now) }
 {
     if left.len() != right.len() {
@@ -113,7 +113,7 @@ fn same_pairs(left: &[(RcStr, RcStr)], right: &[(RcStr, RcStr)]) -> bool
     true
 }
 
-fn entries_are_pairs(entries: &[(Key, Value)], pairs: &[(RcStr, RcStr)]) -> bool
+fn entries_are_pairs(entries: &[(Key, Value)], pairs: &[(ArcStr, ArcStr)]) -> bool
     ensures { result ≡ entries_eq (entries_view entries.now) (pairs_view pairs.now) }
 {
     if entries.len() != pairs.len() {
@@ -127,7 +127,7 @@ fn entries_are_pairs(entries: &[(Key, Value)], pairs: &[(RcStr, RcStr)]) -> bool
     true
 }
 
-fn entry_is_pair(entry: &(Key, Value), pair: &(RcStr, RcStr)) -> bool
+fn entry_is_pair(entry: &(Key, Value), pair: &(ArcStr, ArcStr)) -> bool
     ensures { result ≡ (key_eq (key_view entry.now.0) (text_key (text_view pair.now.0))
         && value_eq (value_view entry.now.1) (text (text_view pair.now.1))) }
 {

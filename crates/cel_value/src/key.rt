@@ -11,7 +11,7 @@ ghost use Rattle.cel_value.specs.View.{lent_view};
 
 use crate::value::{Key, Value};
 use std::cmp::Ordering;
-use std::rc::RcStr;
+use std::sync::ArcStr;
 
 /// A lent key, for a look-up.
 #[derive(Clone, Copy)]
@@ -19,7 +19,7 @@ pub enum LentKey<'a> {
     Bool(bool),
     Int(i64),
     Uint(u64),
-    Text(&'a RcStr),
+    Text(&'a ArcStr),
 }
 
 impl Key {
@@ -83,7 +83,7 @@ pub(crate) fn compare_keys(left: LentKey<'_>, right: LentKey<'_>) -> Ordering
 }
 
 /// The order of the texts by code point; compares their bytes.
-pub fn compare_texts(left: &RcStr, right: &RcStr) -> Ordering
+pub fn compare_texts(left: &ArcStr, right: &ArcStr) -> Ordering
     ensures { result ≡ slice_cmp nat_cmp (text_view left.now) (text_view right.now) }
 {
     left.cmp(right)

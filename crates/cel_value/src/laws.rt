@@ -4,11 +4,11 @@ ghost use Rattle.std.specs.Prelude.{◌≡◌, ◌≢◌, ◌↔◌, ℕ, List, 
 ghost use Rattle.std.specs.Cmp.{IsTotalOrder};
 ghost use Rattle.std.specs.Cmp.Lexicographic.{slice_cmp};
 ghost use Rattle.std.specs.Ordering.{nat_cmp};
-ghost use Rattle.std.specs.Rc.{rc_str_bytes};
+ghost use Rattle.std.specs.Arc.{arc_str_bytes};
 ghost use Rattle.std.specs.Str.{IsUtf8};
 ghost use Rattle.std.specs.declared.alloc.Global.{Global};
 ghost use Rattle.std.specs.declared.cmp.Ordering.TheVariants.{Equal};
-ghost use Rattle.std.specs.declared.rc.RcStr.{RcStr};
+ghost use Rattle.std.specs.declared.sync.ArcStr.{ArcStr};
 ghost use Rattle.cel_value.specs.Equality.{key_eq, value_eq};
 ghost use Rattle.cel_value.specs.Keys.{AreRising, IsAscending, get, is_ascending, key_cmp, put};
 ghost use Rattle.cel_value.specs.Texts.{AreScalars, points_of, utf8_of};
@@ -67,6 +67,6 @@ pub fn put_keeps_order()
 
 /// Pairs of texts are a map if each name is below the next by its bytes.
 pub fn sorted_names_are_a_map()
-    ensures { (pairs : List (RcStr Global × RcStr Global))
-        → AreRising (map (λ pair. rc_str_bytes pair.0) pairs) → IsAscending (pairs_view pairs) }
+    ensures { (pairs : List (ArcStr Global × ArcStr Global))
+        → AreRising (map (λ pair. arc_str_bytes pair.0) pairs) → IsAscending (pairs_view pairs) }
 {}

@@ -11,7 +11,7 @@ ghost use Rattle.cel_value.specs.View.{entries_view, key_view, lent_view, map_vi
 use crate::key::{LentKey, compare_keys, compare_texts};
 use crate::value::{Key, Map, Value};
 use std::alloc::AllocError;
-use std::rc::RcStr;
+use std::sync::ArcStr;
 
 impl Map {
     /// How many entries the map has.
@@ -81,7 +81,7 @@ fn entry_count(entries: &[(Key, Value)]) -> usize
     entries.len()
 }
 
-fn pair_count(pairs: &[(RcStr, RcStr)]) -> usize
+fn pair_count(pairs: &[(ArcStr, ArcStr)]) -> usize
     ensures { result ≡ entry_count (pairs_view pairs.now) }
 {
     pairs.len()
@@ -98,7 +98,7 @@ fn entries_rise(entries: &[(Key, Value)]) -> bool
     true
 }
 
-fn pairs_rise(pairs: &[(RcStr, RcStr)]) -> bool
+fn pairs_rise(pairs: &[(ArcStr, ArcStr)]) -> bool
     ensures { result ≡ is_ascending (pairs_view pairs.now) }
 {
     for i in 1..pairs.len() {
@@ -119,7 +119,7 @@ fn find_entry<'a>(entries: &'a [(Key, Value)], key: LentKey<'_>) -> Option<&'a V
     }
 }
 
-fn find_text<'a>(pairs: &'a [(RcStr, RcStr)], key: LentKey<'_>) -> Option<&'a RcStr>
+fn find_text<'a>(pairs: &'a [(ArcStr, ArcStr)], key: LentKey<'_>) -> Option<&'a ArcStr>
     requires { IsAscending (pairs_view pairs.now) }
     ensures { option_map (λ t. text (text_view t.now)) result ≡ get (pairs_view pairs.now) (lent_view key.entry) }
 {
@@ -132,7 +132,7 @@ fn find_text<'a>(pairs: &'a [(RcStr, RcStr)], key: LentKey<'_>) -> Option<&'a Rc
 }
 
 /// The text that is paired with this name, found by binary search.
-pub(crate) fn find_pair<'a>(pairs: &'a [(RcStr, RcStr)], name: &RcStr) -> Option<&'a RcStr>
+pub(crate) fn find_pair<'a>(pairs: &'a [(ArcStr, ArcStr)], name: &ArcStr) -> Option<&'a ArcStr>
     requires { IsAscending (pairs_view pairs.now) }
     ensures { option_map (λ t. text (text_view t.now)) result
         ≡ get (pairs_view pairs.now) (text_key (text_view name.now)) }
@@ -153,7 +153,7 @@ fn entry_key(entries: &[(Key, Value)], index: usize) -> Result<Option<Value>, Al
     Ok(Some(Value::from(entries[index].0.copy()?)))
 }
 
-fn pair_key(pairs: &[(RcStr, RcStr)], index: usize) -> Result<Option<Value>, AllocError>
+fn pair_key(pairs: &[(ArcStr, ArcStr)], index: usize) -> Result<Option<Value>, AllocError>
     ensures { IfOk result (λ found.
         option_map value_view found ≡ item_at (key_items (pairs_view pairs.now)) index) }
 {

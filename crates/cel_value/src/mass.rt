@@ -6,11 +6,11 @@ ghost use Rattle.cel_value.specs.Texts.{text_view, utf8_of};
 ghost use Rattle.cel_value.specs.View.{entries_view, key_view, map_view, pairs_view, value_view, values_view};
 
 use crate::value::{Key, Map, Value};
-use std::rc::RcStr;
+use std::sync::ArcStr;
 
 /// The number of a text's UTF-8 bytes.
 #[inline(always)]
-pub fn text_length(text: &RcStr) -> u64
+pub fn text_length(text: &ArcStr) -> u64
     ensures { result ≡ length (utf8_of (text_view text.now)) }
 {
     text.len() as u64
@@ -38,7 +38,7 @@ pub fn item_count(items: &[Value]) -> usize
 }
 
 // The number less the mass of a text; none if it is too small.
-fn spend_text(text: &RcStr, left: u64) -> Option<u64>
+fn spend_text(text: &ArcStr, left: u64) -> Option<u64>
     ensures { result ≡ left_of left (1 + length (utf8_of (text_view text.now))) }
 {
     left.checked_sub(1)?.checked_sub(text.len() as u64)
@@ -107,7 +107,7 @@ fn spend_entries(entries: &[(Key, Value)], left: u64) -> Option<u64>
     Some(rest)
 }
 
-fn spend_pairs(pairs: &[(RcStr, RcStr)], left: u64) -> Option<u64>
+fn spend_pairs(pairs: &[(ArcStr, ArcStr)], left: u64) -> Option<u64>
     ensures { result ≡ left_of left (entries_mass (pairs_view pairs.now)) }
 {
     let mut rest = left;

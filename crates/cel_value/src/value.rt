@@ -6,7 +6,7 @@ ghost use Rattle.cel_value.specs.View.{answer_view, key_view, map_view, value_vi
 
 use crate::error::CelError;
 use std::alloc::AllocError;
-use std::rc::{Rc, RcSlice, RcStr};
+use std::sync::{Arc, ArcSlice, ArcStr};
 
 /// The key of a map.
 #[derive(Drop)]
@@ -14,7 +14,7 @@ pub enum Key {
     Bool(bool),
     Int(i64),
     Uint(u64),
-    Text(RcStr),
+    Text(ArcStr),
 }
 
 /// A value (CEL language definition, "Values"). Its parts are shared: a copy of a list or map copies
@@ -25,9 +25,9 @@ pub enum Value {
     Bool(bool),
     Int(i64),
     Uint(u64),
-    Text(RcStr),
-    Bytes(RcSlice<u8>),
-    List(Rc<Vec<Value>>),
+    Text(ArcStr),
+    Bytes(ArcSlice<u8>),
+    List(Arc<Vec<Value>>),
     Map(Map),
 }
 
@@ -36,9 +36,9 @@ pub enum Value {
 #[cycle(value)]
 pub enum Map {
     /// Keys with values.
-    Entries(Rc<Vec<(Key, Value)>>),
+    Entries(Arc<Vec<(Key, Value)>>),
     /// Pairs of texts, such as the headers of a request.
-    Texts(Rc<Vec<(RcStr, RcStr)>>),
+    Texts(Arc<Vec<(ArcStr, ArcStr)>>),
 }
 
 /// The result of an expression: a value, or an error.

@@ -8,7 +8,7 @@ ghost use Rattle.code_verifier.specs.steps.SlotView.{both_view, slot_view};
 use crate::slot::Slot;
 use cel_value::{CelType, KeyType};
 use std::alloc::{AllocError, Global};
-use std::rc::Rc;
+use std::sync::Arc;
 
 /// The type of a key as a value.
 pub(crate) fn type_of_key(keys: KeyType) -> CelType
@@ -28,7 +28,7 @@ pub(crate) fn list_of(alloc: Global, a: Slot) -> Result<Slot, AllocError>
 {
     match a {
         Slot::Failing => Ok(Slot::Failing),
-        Slot::Of(t) => Ok(Slot::Of(CelType::List(Rc::new(alloc, t)?))),
+        Slot::Of(t) => Ok(Slot::Of(CelType::List(Arc::new(alloc, t)?))),
     }
 }
 
@@ -45,7 +45,7 @@ pub(crate) fn map_of(alloc: Global, key: Slot, value: Slot) -> Result<Option<Slo
     };
     match value {
         Slot::Failing => Ok(Some(Slot::Failing)),
-        Slot::Of(t) => Ok(Some(Slot::Of(CelType::Map(keys, Rc::new(alloc, t)?)))),
+        Slot::Of(t) => Ok(Some(Slot::Of(CelType::Map(keys, Arc::new(alloc, t)?)))),
     }
 }
 

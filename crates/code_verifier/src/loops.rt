@@ -13,7 +13,7 @@ use crate::successors::{three, to, two};
 use cel_value::CelType;
 use machine_code::Stack;
 use std::alloc::AllocError;
-use std::rc::Rc;
+use std::sync::Arc;
 
 /// The ways of a `LoopStart`.
 pub(crate) fn loop_start_ways(
@@ -57,7 +57,7 @@ pub(crate) fn loop_next_ways(
     let locals = with_slot(point.alloc, &point.shape.locals, local, each)?;
     let next = Shape {
         slots: point.shape.slots,
-        locals: Rc::new(point.alloc, locals)?,
+        locals: Arc::new(point.alloc, locals)?,
         loops: point.shape.loops,
     };
     let out = to(done as usize, point.shape, point.shape.slots, outer)?;
@@ -89,7 +89,7 @@ pub(crate) fn loop_next2_ways(
     let locals = with_slot(point.alloc, &keyed, both.1, second)?;
     let next = Shape {
         slots: point.shape.slots,
-        locals: Rc::new(point.alloc, locals)?,
+        locals: Arc::new(point.alloc, locals)?,
         loops: point.shape.loops,
     };
     let out = to(done as usize, point.shape, point.shape.slots, outer)?;

@@ -13,7 +13,7 @@ use attributes::{AttrId, AttrType, attr_type};
 use cel_value::{CelType, KeyType};
 use machine_code::Constant;
 use std::alloc::{AllocError, Global};
-use std::rc::{Rc, RcStr};
+use std::sync::{Arc, ArcStr};
 
 /// The slot that a constant leaves.
 pub(crate) fn constant_slot(constant: &Constant) -> Slot
@@ -40,7 +40,7 @@ fn uint_slot(number: u64) -> Slot
     Slot::Of(CelType::Uint)
 }
 
-fn text_slot(value: &RcStr) -> Slot
+fn text_slot(value: &ArcStr) -> Slot
     ensures { option_map slot_view (Some result) ≡ constant_slot (text (text_view value.now)) }
 {
     Slot::Of(CelType::Text)
@@ -56,7 +56,7 @@ pub(crate) fn attribute_slot(alloc: Global, id: AttrId) -> Result<Slot, AllocErr
         AttrType::Uint => Ok(Slot::Of(CelType::Uint)),
         AttrType::Bool => Ok(Slot::Of(CelType::Bool)),
         AttrType::TextMap => {
-            let values = Rc::new(alloc, CelType::Text)?;
+            let values = Arc::new(alloc, CelType::Text)?;
             Ok(Slot::Of(CelType::Map(KeyType::Text, values)))
         }
     }

@@ -21,7 +21,7 @@ use crate::successors::{leave, one};
 use cel_ops::Operation;
 use machine_code::{Instr, Stack};
 use std::alloc::AllocError;
-use std::rc::Rc;
+use std::sync::Arc;
 
 /// The ways from an instruction at a point; none if an operand is missing or of a wrong kind.
 pub(crate) fn ways_of(
@@ -122,7 +122,7 @@ fn store_ways(
     let locals = with_slot(point.alloc, &point.shape.locals, local, a)?;
     let stored = Shape {
         slots: rest,
-        locals: Rc::new(point.alloc, locals)?,
+        locals: Arc::new(point.alloc, locals)?,
         loops: point.shape.loops,
     };
     let on = Due {

@@ -1,7 +1,7 @@
 -- How expressions are seen, constructor by constructor.
 use Rattle.std.proofs.Common.{◌≡◌, ℕ, rules, Bor}
 use Rattle.std.specs.declared.boxed.Box.{Box}
-use Rattle.std.specs.declared.rc.RcStr.{RcStr}
+use Rattle.std.specs.declared.sync.ArcStr.{ArcStr}
 use Rattle.std.specs.declared.vec.Vec.{Vec}
 use Rattle.std.specs.declared.alloc.Global.{Global}
 use Rattle.attributes.specs.declared.attribute.AttrId.{AttrId}
@@ -28,11 +28,11 @@ pub view_attribute : (t : CelType) (a : AttrId) → expr_view (AttributeExpr t a
     ≡ typed_attribute (type_view t) a
 view_attribute t a = search (rules, the_lemmas)
 
-pub view_field : (t : CelType) (m : Box TypedExpr Global) (n : Bor (RcStr Global))
+pub view_field : (t : CelType) (m : Box TypedExpr Global) (n : Bor (ArcStr Global))
     → expr_view (FieldExpr t m n) ≡ typed_field (type_view t) (expr_view m.value) (text_view n.now)
 view_field t m n = search (rules, the_lemmas)
 
-pub view_has_field : (t : CelType) (m : Box TypedExpr Global) (n : Bor (RcStr Global))
+pub view_has_field : (t : CelType) (m : Box TypedExpr Global) (n : Bor (ArcStr Global))
     → expr_view (HasExpr t m n) ≡ typed_has (type_view t) (expr_view m.value) (text_view n.now)
 view_has_field t m n = search (rules, the_lemmas)
 

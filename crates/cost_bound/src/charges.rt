@@ -19,7 +19,7 @@ use cel_overload::Overload;
 use cel_types::TypedExpr;
 use cel_value::{CelType, text_length};
 use proto_wire::Refusal;
-use std::rc::RcStr;
+use std::sync::ArcStr;
 
 /// The budget less 1 and less a part; `TooCostly` if it is too small. A capped part is 2^64 - 1: no
 /// budget pays for it and for the 1.
@@ -50,7 +50,7 @@ pub(crate) fn pay_turns(left: u64, turns: u64, cost: u64) -> Result<u64, Refusal
 }
 
 /// The charge of a look-up of a name in a map of this size, less 1.
-pub(crate) fn field_part(name: &RcStr, map: &ValueSize) -> u64
+pub(crate) fn field_part(name: &ArcStr, map: &ValueSize) -> u64
     ensures { result ≡ capped (field_cost (text_view name.now) (size_view map.now) - 1) }
 {
     product(sum(1, text_length(name)), map.most())

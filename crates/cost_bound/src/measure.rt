@@ -34,7 +34,7 @@ use cel_types::{TypedExpr, TypedLoop};
 use cel_value::CelType;
 use proto_wire::Refusal;
 use std::alloc::Global;
-use std::rc::RcStr;
+use std::sync::ArcStr;
 
 /// Measures an expression with its memo.
 #[cycle(measure)]
@@ -90,7 +90,7 @@ fn measure_field(
     map: &TypedExpr<'_>,
     at: Measuring<'_>,
     memo: Option<&Memo>,
-    name: &RcStr,
+    name: &ArcStr,
     left: u64,
 ) -> Result<Measured, Refusal>
     requires counted { IsCounted (locals_view at.scope.now) }

@@ -12,7 +12,7 @@ use crate::lines::value_of;
 use crate::told::{Told, read};
 use attributes::Conn;
 use std::alloc::{AllocError, Global};
-use std::rc::RcStr;
+use std::sync::ArcStr;
 
 /// What is said of a client.
 #[derive(Debug, Drop)]
@@ -53,7 +53,7 @@ impl Client {
             Told::Method(text) => self.method = String::from_str(alloc, text)?,
             Told::Target(text) => self.target = String::from_str(alloc, text)?,
             Told::Host(text) => self.host = Some(String::from_str(alloc, text)?),
-            Told::Scheme(text) => self.conn.scheme = RcStr::from_str(alloc, text)?,
+            Told::Scheme(text) => self.conn.scheme = ArcStr::from_str(alloc, text)?,
             Told::RemoteIp(ip) => self.conn.remote_ip = Some(ip),
             Told::DirectRemoteIp(ip) => self.conn.direct_remote_ip = Some(ip),
             Told::SourcePort(port) => self.conn.source_port = Some(port),
@@ -76,11 +76,11 @@ impl Client {
 }
 
 // A text of the facts, if there is one.
-fn fact_text(alloc: Global, text: Option<&str>) -> Result<Option<RcStr>, AllocError>
+fn fact_text(alloc: Global, text: Option<&str>) -> Result<Option<ArcStr>, AllocError>
     ensures { IfOk result (λ copy. text_view copy ≡ option_map (λ t. t.now) text.entry) }
 {
     match text {
-        Some(text) => Ok(Some(RcStr::from_str(alloc, text)?)),
+        Some(text) => Ok(Some(ArcStr::from_str(alloc, text)?)),
         None => Ok(None),
     }
 }

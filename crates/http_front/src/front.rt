@@ -18,7 +18,7 @@ use crate::turn::{Turn, turn_of};
 use attributes::{Conn, Limits};
 use std::alloc::{AllocError, Global};
 use std::marker::Model;
-use std::rc::Rc;
+use std::sync::Arc;
 
 /// Gives the asks in the bytes of a connection, in whatever pieces these arrive (RFC 9112). It does not keep bytes
 /// whose ask was given. It does not keep bytes of a body that arrive after the ask of its head was taken.
@@ -27,7 +27,7 @@ pub struct Front {
     limits: Limits,
     conn: Conn,
     // a copy of the facts, made for the first head; all heads share it
-    shared: Option<Rc<Conn>>,
+    shared: Option<Arc<Conn>>,
     bytes: Vec<u8>,
     // where the bytes begin whose ask was not given yet
     at: usize,
@@ -202,20 +202,20 @@ impl Front {
     }
 
     // The facts of the connection, as all heads share them.
-    fn shared_conn(&mut self) -> Result<Rc<Conn>, AllocError>
+    fn shared_conn(&mut self) -> Result<Arc<Conn>, AllocError>
         ensures same { self.new ≡ self.old }
         ensures conn { IfOk result (λ conn. conn_view conn.value ≡ self.old.facts) }
     {
         if let Some(shared) = &self.shared {
             return shared.clone();
         }
-        let shared = Rc::new(*self.bytes.allocator(), self.conn.copy()?)?;
+        let shared = Arc::new(*self.bytes.allocator(), self.conn.copy()?)?;
         self.shared = Some(shared.clone()?);
         Ok(shared)
     }
 
     // The first ask, and how the bytes continue after it, on the connection `conn`, which is this one.
-    fn turn(&self, conn: &Rc<Conn>) -> Result<Turn, AllocError>
+    fn turn(&self, conn: &Arc<Conn>) -> Result<Turn, AllocError>
         requires { conn_view conn.now.value ≡ self.now.facts }
         ensures { IfOk result (IsNextTurn self.now.limits self.now.facts self.now.kept) }
     {
@@ -277,7 +277,7 @@ impl Front {
 }
 
 // The same facts, shared once more.
-fn copy_shared(shared: &Option<Rc<Conn>>) -> Result<Option<Rc<Conn>>, AllocError>
+fn copy_shared(shared: &Option<Arc<Conn>>) -> Result<Option<Arc<Conn>>, AllocError>
     ensures { (facts : Facts) → IfSome shared.now (λ conn. conn_view conn.value ≡ facts)
         → IfOk result (λ copy. IfSome copy (λ conn. conn_view conn.value ≡ facts)) }
 {

@@ -23,8 +23,8 @@ use httparse::spans::{HeaderSpan, parse_request};
 use httparse::{Error, Status};
 use std::alloc::{AllocError, Global};
 use std::marker::Model;
-use std::rc::Rc;
 use std::str;
+use std::sync::Arc;
 
 /// A whole head as it was sent.
 #[derive(Drop)]
@@ -124,7 +124,7 @@ impl<'a> Head<'a> {
 
     /// The request of the head, on this connection.
     #[inline(always)]
-    pub(crate) fn to_request(&self, alloc: Global, conn: Rc<Conn>) -> Result<Request, AllocError>
+    pub(crate) fn to_request(&self, alloc: Global, conn: Arc<Conn>) -> Result<Request, AllocError>
         requires { AreTexts self.now }
         ensures { IfOk result (λ r. r ≡ request_of_head self.now (conn_view conn.value)) }
     {

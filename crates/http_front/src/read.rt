@@ -15,7 +15,7 @@ use attributes::{Conn, Limits, Request};
 use httparse::spans::{EMPTY_HEADER_SPAN, HeaderSpan};
 use memchr::memchr_iter;
 use std::alloc::{AllocError, Global};
-use std::rc::Rc;
+use std::sync::Arc;
 
 /// The greatest length of a head in bytes.
 pub(crate) const HEAD_ROOM: usize = 65_536;
@@ -121,7 +121,7 @@ pub(crate) fn ask_of(
     if let Some(fault) = refusal_of(head, limits) {
         return Ok(HeadAsk::Fault(fault));
     }
-    ask_on(alloc, head, limits, Rc::new(alloc, conn)?)
+    ask_on(alloc, head, limits, Arc::new(alloc, conn)?)
 }
 
 /// The fault of a head that breaks a rule or has too many fields.
@@ -145,7 +145,7 @@ pub(crate) fn ask_on(
     alloc: Global,
     head: &Head<'_>,
     limits: &Limits,
-    conn: Rc<Conn>,
+    conn: Arc<Conn>,
 ) -> Result<HeadAsk, AllocError>
     requires sound { (fault : HeadFault) → ¬ (RuleFault head.now fault) }
     requires texts { AreTexts head.now }

@@ -15,7 +15,7 @@ use attributes::{Conn, Limits, Request};
 use httparse::spans::EMPTY_HEADER_SPAN;
 use memchr::memchr_iter;
 use std::alloc::{AllocError, Global};
-use std::rc::Rc;
+use std::sync::Arc;
 
 /// The first ask of some bytes, and how they continue after it.
 #[derive(Debug, Drop)]
@@ -36,7 +36,7 @@ pub(crate) const FEW: usize = 1_024;
 pub(crate) fn turn_of(
     alloc: Global,
     limits: &Limits,
-    conn: &Rc<Conn>,
+    conn: &Arc<Conn>,
     bytes: &[u8],
 ) -> Result<Turn, AllocError>
     ensures { IfOk result (IsTurn limits.now (conn_view conn.now.value) bytes.now) }
@@ -54,7 +54,7 @@ pub(crate) fn turn_of(
 fn turn_of_room(
     alloc: Global,
     limits: &Limits,
-    conn: &Rc<Conn>,
+    conn: &Arc<Conn>,
     bytes: &[u8],
 ) -> Result<Turn, AllocError>
     ensures { IfOk result (IsTurn limits.now (conn_view conn.now.value) bytes.now) }
@@ -84,7 +84,7 @@ fn turn_in_room(turn: Turn, count: usize) -> Turn
 fn turn_of_first(
     alloc: Global,
     limits: &Limits,
-    conn: &Rc<Conn>,
+    conn: &Arc<Conn>,
     bytes: &[u8],
     count: usize,
 ) -> Result<Turn, AllocError>
@@ -111,7 +111,7 @@ fn turn_of_first(
 fn turn_of_parsed(
     alloc: Global,
     limits: &Limits,
-    conn: &Rc<Conn>,
+    conn: &Arc<Conn>,
     parsed: Parsed<'_>,
     count: usize,
 ) -> Result<Turn, AllocError>
@@ -131,7 +131,7 @@ fn turn_of_parsed(
 fn turn_of_head(
     alloc: Global,
     limits: &Limits,
-    conn: &Rc<Conn>,
+    conn: &Arc<Conn>,
     head: &Head<'_>,
     size: usize,
 ) -> Result<Turn, AllocError>

@@ -8,7 +8,7 @@ use attributes::AttrId;
 use cel_ops::Operation;
 use cel_value::{CelType, KeyType, Value};
 use std::alloc::AllocError;
-use std::rc::{RcSlice, RcStr};
+use std::sync::{ArcSlice, ArcStr};
 
 /// A value in the code.
 #[derive(Drop)]
@@ -16,8 +16,8 @@ pub enum Constant {
     Bool(bool),
     Int(i64),
     Uint(u64),
-    Text(RcStr),
-    Bytes(RcSlice<u8>),
+    Text(ArcStr),
+    Bytes(ArcSlice<u8>),
 }
 
 /// One instruction. It works on a stack of results, on numbered locals and on open loops. A target
@@ -35,9 +35,9 @@ pub enum Instr {
     /// Pops the operands of an operation, and pushes its answer.
     Operate(Operation),
     /// Pops a map, and pushes the value at this text.
-    Field(RcStr),
+    Field(ArcStr),
     /// Pops a map, and pushes whether this text is one of its keys.
-    HasField(RcStr),
+    HasField(ArcStr),
     /// Pops so many values, at least one, and pushes the list of them.
     MakeList(u16),
     /// Pushes the empty list of items of this type; `MakeList` needs at least one.

@@ -9,7 +9,7 @@ use attributes::AttrId;
 use cel_ops::Operation;
 use cel_value::{CelType, KeyType};
 use std::alloc::AllocError;
-use std::rc::RcStr;
+use std::sync::ArcStr;
 
 /// An instruction with its constant, name or type lent.
 #[derive(Clone, Copy)]
@@ -19,8 +19,8 @@ pub enum Op<'a> {
     Load(u8),
     Store(u8),
     Operate(Operation),
-    Field(&'a RcStr),
-    HasField(&'a RcStr),
+    Field(&'a ArcStr),
+    HasField(&'a ArcStr),
     MakeList(u16),
     EmptyList(&'a CelType),
     MakeMap(u16),

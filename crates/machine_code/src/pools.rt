@@ -16,13 +16,13 @@ use crate::pool::{Part, Pool};
 use cel_value::{CelType, compare_texts, same_texts};
 use std::alloc::{AllocError, Global};
 use std::cmp::Ordering;
-use std::rc::RcStr;
+use std::sync::ArcStr;
 
 /// Constants, field names and types, each once, and pairs of targets, or of a local and a target.
 #[derive(Drop)]
 pub(crate) struct Pools {
     constants: Pool<Constant>,
-    names: Pool<RcStr>,
+    names: Pool<ArcStr>,
     types: Pool<CelType>,
     pairs: Vec<(u16, u16)>,
 }
@@ -197,7 +197,7 @@ impl Part for Constant {
     }
 }
 
-impl Part for RcStr {
+impl Part for ArcStr {
     ghost use Rattle.std.specs.Prelude.{◌≡◌, refl};
     ghost use Rattle.cel_value.specs.Texts.{text_view};
 
@@ -205,11 +205,11 @@ impl Part for RcStr {
 
     ghost same = { λ x. refl };
 
-    fn order(&self, other: &RcStr) -> Ordering {
+    fn order(&self, other: &ArcStr) -> Ordering {
         compare_texts(self, other)
     }
 
-    fn is_same(&self, other: &RcStr) -> bool {
+    fn is_same(&self, other: &ArcStr) -> bool {
         same_texts(self, other)
     }
 }

@@ -9,7 +9,7 @@ use serde_json::Value;
 use serve_config::{Address, ServeConfig, ServeConfigFault, meaning, read_serve_config};
 use serve_log::facts_value;
 use std::alloc::{AllocError, Global};
-use std::rc::RcStr;
+use std::sync::ArcStr;
 
 /// The length of the longest text of a peer's address with its port: one of IPv6 in brackets.
 const LONGEST_PEER: usize = 47;
@@ -97,7 +97,7 @@ fn proxy_in(alloc: Global, value: &Value) -> Result<Config, SetupFault> {
 // The facts of all connections.
 fn facts_in(alloc: Global, value: &Value) -> Result<Conn, SetupFault> {
     let Some(facts) = value.get("facts") else {
-        return Ok(Conn::of_scheme(RcStr::from_str(alloc, "http")?));
+        return Ok(Conn::of_scheme(ArcStr::from_str(alloc, "http")?));
     };
     match conn_of(alloc, facts) {
         Ok(conn) => Ok(conn),

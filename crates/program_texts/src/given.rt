@@ -13,7 +13,7 @@ use crate::fact_fault::FactFault;
 use attributes::{Conn, Ip, parse_ip};
 use serde_json::{Map, Value};
 use std::alloc::{AllocError, Global};
-use std::rc::RcStr;
+use std::sync::ArcStr;
 
 /// The facts that a value means, or the member that has a fault.
 pub(crate) fn given_facts<'a>(value: &'a Value) -> Result<Conn<&'a str>, FactFault<'a>>
@@ -59,15 +59,15 @@ pub(crate) fn owned(alloc: Global, facts: &Conn<&str>) -> Result<Conn, AllocErro
         direct_remote_ip: facts.direct_remote_ip,
         remote_ip: facts.remote_ip,
         destination_ip: facts.destination_ip,
-        scheme: RcStr::from_str(alloc, facts.scheme)?,
+        scheme: ArcStr::from_str(alloc, facts.scheme)?,
     })
 }
 
-fn owned_text(alloc: Global, text: Option<&str>) -> Result<Option<RcStr>, AllocError>
+fn owned_text(alloc: Global, text: Option<&str>) -> Result<Option<ArcStr>, AllocError>
     ensures { IfOk result (λ copy. text_view copy ≡ option_map (λ t. t.now) text.entry) }
 {
     match text {
-        Some(text) => Ok(Some(RcStr::from_str(alloc, text)?)),
+        Some(text) => Ok(Some(ArcStr::from_str(alloc, text)?)),
         None => Ok(None),
     }
 }

@@ -7,7 +7,7 @@ ghost use Rattle.program_texts.specs.Facts.{HasLongText, IsLong};
 use crate::fact::Fact;
 use crate::fact_fault::FactFault;
 use attributes::{Conn, Limit, Limits};
-use std::rc::RcStr;
+use std::sync::ArcStr;
 
 /// The connection, if its texts are within the limits; otherwise the first fact whose text is not.
 pub fn within_limits(conn: Conn) -> Result<Conn, FactFault<'static>>
@@ -46,7 +46,7 @@ fn require_limits(conn: &Conn) -> Result<(), FactFault<'static>>
 }
 
 /// Refuses the text of a fact above the limit, if there is one.
-fn require_short(fact: Fact, text: &Option<RcStr>) -> Result<(), FactFault<'static>>
+fn require_short(fact: Fact, text: &Option<ArcStr>) -> Result<(), FactFault<'static>>
     ensures found { OnOk result (IsWithin largest.text (text_view text.now)) }
     ensures fault { IfErr result (IsLong fact (text_view text.now)) }
 {

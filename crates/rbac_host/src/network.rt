@@ -9,8 +9,8 @@ use std::alloc::{AllocError, Global};
 use std::fs::Files;
 use std::io::{self, ErrorKind, Input, Read, Write};
 use std::net::{IpAddr, Ipv4Addr, Ipv6Addr, Net, SocketAddr};
-use std::rc::RcStr;
 use std::rt::Clock;
+use std::sync::ArcStr;
 
 /// A stream of the system.
 #[derive(Drop)]
@@ -152,7 +152,7 @@ fn conn_of(alloc: Global, known: &Conn, accepted: &Accepted) -> Result<Conn, All
 }
 
 // An address with its port, as Envoy writes it in `source.address`.
-fn address_text(alloc: Global, address: &SocketAddr) -> Result<RcStr, AllocError> {
+fn address_text(alloc: Global, address: &SocketAddr) -> Result<ArcStr, AllocError> {
     let port = address.port();
     let text = match ip_of(address.ip()) {
         Ip::V4(bits) => {
@@ -164,7 +164,7 @@ fn address_text(alloc: Global, address: &SocketAddr) -> Result<RcStr, AllocError
             format!(in alloc; "[{ip}]:{port}")?
         }
     };
-    RcStr::from_str(alloc, text.as_str())
+    ArcStr::from_str(alloc, text.as_str())
 }
 
 // The address; one of IPv4 that is written as one of IPv6 (RFC 4291, section 2.5.5.2) is one of IPv4.

@@ -8,7 +8,7 @@ use cel_value::{Answer, Value};
 use proto_wire::Refusal;
 use rbac_policy::{WrittenCondition, written_condition};
 use std::alloc::{AllocError, Global};
-use std::rc::RcStr;
+use std::sync::ArcStr;
 
 /// How many characters of a text are told at most.
 const SHOWN: usize = 100;
@@ -112,13 +112,13 @@ fn words_of(alloc: Global, place: &Place<'_>, request: &Request) -> Result<Strin
 }
 
 /// An attribute that the request lacks.
-fn words_of_attribute(alloc: Global, name: &RcStr) -> Result<String, AllocError> {
+fn words_of_attribute(alloc: Global, name: &ArcStr) -> Result<String, AllocError> {
     let name = name.as_str();
     format!(in alloc; "no attribute {name}")
 }
 
 /// A Select that is an error: of an attribute that the request lacks, or of a key that a map lacks.
-fn words_of_select(alloc: Global, operand: &Tree, field: &RcStr) -> Result<String, AllocError> {
+fn words_of_select(alloc: Global, operand: &Tree, field: &ArcStr) -> Result<String, AllocError> {
     let field = field.as_str();
     match operand {
         Tree::Ident { name, .. } if is_root(name.as_str()) => {

@@ -28,7 +28,7 @@ use rbac_policy::{Admitted, admit};
 use stack_machine::RunError;
 use std::alloc::{AllocError, Global};
 use std::io::{self, ErrorKind, Read, Write};
-use std::rc::RcStr;
+use std::sync::ArcStr;
 
 /// The result of checking or judging.
 #[derive(Drop)]
@@ -136,7 +136,7 @@ pub(crate) fn memory_line(json: bool) -> &'static [u8]
 pub fn plain_conn(alloc: Global) -> Result<Conn, AllocError>
     ensures { IfOk result (λ conn. conn_view conn ≡ plain_facts) }
 {
-    Ok(Conn::of_scheme(RcStr::from_str(alloc, "http")?))
+    Ok(Conn::of_scheme(ArcStr::from_str(alloc, "http")?))
 }
 
 /// Judges the head that the input begins with, by the bytes of a policy file under this budget, on a connection with

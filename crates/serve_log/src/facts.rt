@@ -4,7 +4,7 @@ use crate::object::Object;
 use attributes::{Conn, Ip};
 use serde_json::Value;
 use std::alloc::{AllocError, Global};
-use std::rc::RcStr;
+use std::sync::ArcStr;
 
 /// The facts of a connection, as the object of a facts file. A fact that is absent is left out.
 pub fn facts_value(alloc: Global, conn: &Conn) -> Result<Value, AllocError> {
@@ -46,7 +46,7 @@ fn put_tls(facts: &mut Object, conn: &Conn) -> Result<(), AllocError> {
     put_text(facts, "connection.uri_san_peer_certificate", uri)
 }
 
-fn put_text(facts: &mut Object, name: &str, text: &Option<RcStr>) -> Result<(), AllocError> {
+fn put_text(facts: &mut Object, name: &str, text: &Option<ArcStr>) -> Result<(), AllocError> {
     match text {
         Some(text) => facts.put_text(name, text),
         None => Ok(()),

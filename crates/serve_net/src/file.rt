@@ -8,7 +8,7 @@ use std::cell::Cell;
 use std::fs::{self, File, Files, Metadata, OpenFile};
 use std::io::{self, ErrorKind, Read, Write};
 use std::os::unix::fs::MetadataExt;
-use std::rc::Rc;
+use std::sync::Arc;
 
 /// The greatest number of bytes of the file.
 pub const MOST_CONTENTS: usize = 1_048_576;
@@ -23,7 +23,7 @@ enum Contents {
 }
 
 // Where contents wait for their stream. Newer ones replace those that wait.
-type Inbox = Rc<Cell<Option<Contents>>, Global>;
+type Inbox = Arc<Cell<Option<Contents>>, Global>;
 
 /// What tells one state of a file from another: which file it is, its length, and when its contents and its inode were
 /// last changed. Programs can set the first time back, but not the second.
@@ -78,7 +78,7 @@ impl WatchedFile {
     /// A stream of what the file has now. Fails if it cannot be read.
     pub(crate) fn connect<R: Files>(&mut self, alloc: Global, rt: &R) -> io::Result<FileStream> {
         let (stamp, contents) = self.read(alloc, rt)?;
-        let inbox: Inbox = Rc::new(alloc, Cell::new(Some(contents)))?;
+        let inbox: Inbox = Arc::new(alloc, Cell::new(Some(contents)))?;
         let stream = FileStream {
             inbox: inbox.clone()?,
             frame: Vec::new(alloc),
@@ -108,7 +108,7 @@ impl WatchedFile {
         }
         self.looked = now;
         match &self.inbox {
-            Some(inbox) if Rc::strong_count(inbox) > 1 => {}
+            Some(inbox) if Arc::strong_count(inbox) > 1 => {}
             _ => return false,
         }
         self.has_changed(rt) && self.renew(alloc, rt).is_ok()

@@ -12,7 +12,7 @@ use crate::held::Held;
 use attributes::Headers;
 use cel_value::{CelError, Key, Map, Value};
 use std::alloc::AllocError;
-use std::rc::RcStr;
+use std::sync::ArcStr;
 
 /// An item of a list with its index.
 pub(crate) fn item_pair<'a>(
@@ -83,7 +83,7 @@ fn entry_pair<'a>(
 }
 
 fn text_pair<'a>(
-    pairs: &[(RcStr, RcStr)],
+    pairs: &[(ArcStr, ArcStr)],
     index: usize,
 ) -> Result<Option<(Held<'a>, Held<'a>)>, AllocError>
     ensures { IfOk result (λ found. option_map pair_view found

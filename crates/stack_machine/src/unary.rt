@@ -1,12 +1,12 @@
 //! Operations on one operand.
 
 use cel_ops::Operation;
-use std::rc::RcStr;
+use std::sync::ArcStr;
 
 /// An operation on one operand.
 #[derive(Clone, Copy)]
 pub(crate) enum Unary<'a> {
     Operate(Operation),
-    Field(&'a RcStr),
-    HasField(&'a RcStr),
+    Field(&'a ArcStr),
+    HasField(&'a ArcStr),
 }

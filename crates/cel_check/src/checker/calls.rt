@@ -17,12 +17,12 @@ use cel_types::TypedExpr;
 use cel_value::CelType;
 use proto_wire::Refusal;
 use std::alloc::{AllocError, Global};
-use std::rc::RcStr;
+use std::sync::ArcStr;
 
 /// A call on these operands, its target first.
 pub(super) fn call_expr<'a>(
     alloc: Global,
-    function: &RcStr,
+    function: &ArcStr,
     has_target: bool,
     operands: Vec<TypedExpr<'a>>,
 ) -> Result<TypedExpr<'a>, Refusal>
@@ -42,7 +42,7 @@ pub(super) fn call_expr<'a>(
 /// The overload of a call on these operands, and the type of its result.
 fn call_type(
     alloc: Global,
-    function: &RcStr,
+    function: &ArcStr,
     has_target: bool,
     operands: &[TypedExpr<'_>],
 ) -> Result<(Overload, CelType), Refusal>

@@ -13,7 +13,7 @@ ghost use Rattle.proto_wire.specs.declared.refusal.Refusal.TheVariants.{BadRefer
 use cel_tree::{Reference, TypeEntry};
 use cel_value::CelType;
 use proto_wire::Refusal;
-use std::rc::RcStr;
+use std::sync::ArcStr;
 
 /// Refuses a type entry that disagrees with the node's type.
 pub(super) fn require_type(entry: Option<&TypeEntry>, found: &CelType) -> Result<(), Refusal>
@@ -72,7 +72,7 @@ fn agrees(reference: &Reference, name: &str) -> bool
 }
 
 /// Whether the kept name is this one.
-fn is_name(kept: &Option<RcStr>, name: &str) -> bool
+fn is_name(kept: &Option<ArcStr>, name: &str) -> bool
     ensures { result ≡ bytes_eq (name_view kept.now) (points_of name.now) }
 {
     match kept {

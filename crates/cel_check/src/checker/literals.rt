@@ -16,7 +16,7 @@ use cel_types::TypedExpr;
 use cel_value::CelType;
 use proto_wire::Refusal;
 use std::alloc::Global;
-use std::rc::Rc;
+use std::sync::Arc;
 
 /// The type of a list literal with these elements; if it is empty, the type of its entry.
 pub(super) fn list_type(
@@ -34,7 +34,7 @@ pub(super) fn list_type(
         [first, others @ ..] => {
             let item = first.cel_type();
             require_in_turn(others, item, item)?;
-            Ok(CelType::List(Rc::new(alloc, item.copy()?)?))
+            Ok(CelType::List(Arc::new(alloc, item.copy()?)?))
         }
     }
 }
@@ -66,7 +66,7 @@ pub(super) fn map_type(
         [key, value, others @ ..] => {
             let key_type = require_key(key.cel_type())?;
             require_in_turn(others, key.cel_type(), value.cel_type())?;
-            Ok(CelType::Map(key_type, Rc::new(alloc, value.cel_type().copy()?)?))
+            Ok(CelType::Map(key_type, Arc::new(alloc, value.cel_type().copy()?)?))
         }
         _ => Ok(empty_map(entry)?.copy()?),
     }

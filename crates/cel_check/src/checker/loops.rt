@@ -15,13 +15,13 @@ use cel_tree::both;
 use cel_types::{TypedExpr, TypedLoop, Variables};
 use proto_wire::Refusal;
 use std::alloc::Global;
-use std::rc::RcStr;
+use std::sync::ArcStr;
 
 /// Refuses names of a comprehension if one is empty, or two are the same. Only the second may be empty.
 pub(super) fn require_names_differ(
-    element: &RcStr,
-    second: &RcStr,
-    gathered: &RcStr,
+    element: &ArcStr,
+    second: &ArcStr,
+    gathered: &ArcStr,
 ) -> Result<(), Refusal>
     ensures found { OnOk result (NamesDiffer (text_view element.now) (text_view second.now) (text_view gathered.now)) }
     ensures fault { IfErr result (NamesFault (text_view element.now) (text_view second.now) (text_view gathered.now)) }
@@ -45,7 +45,7 @@ pub(super) fn require_names_differ(
 }
 
 /// One variable without a second name, otherwise two.
-pub(super) fn variables_of(second: &RcStr) -> Variables
+pub(super) fn variables_of(second: &ArcStr) -> Variables
     ensures { result ≡ variables_of (text_view second.now) }
 {
     if is_nameless(second) {
@@ -54,7 +54,7 @@ pub(super) fn variables_of(second: &RcStr) -> Variables
     Variables::Two
 }
 
-fn is_nameless(name: &RcStr) -> bool
+fn is_nameless(name: &ArcStr) -> bool
     ensures { IsTrue result ↔ (text_view name.now ≡ []) }
 {
     name.as_str().is_empty()

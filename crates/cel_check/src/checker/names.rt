@@ -20,7 +20,7 @@ use cel_types::{TypedExpr, attribute_named, is_root};
 use cel_value::{CelType, KeyType};
 use proto_wire::Refusal;
 use std::alloc::{AllocError, Global};
-use std::rc::{Rc, RcStr};
+use std::sync::{Arc, ArcStr};
 
 /// The meaning of a name.
 #[derive(Clone, Copy)]
@@ -30,7 +30,7 @@ pub(super) enum Name<'s> {
 }
 
 /// The innermost local of a name, or the attribute of that name.
-pub(super) fn resolve<'s>(scope: &Scope<'s>, name: &RcStr) -> Result<Name<'s>, Refusal>
+pub(super) fn resolve<'s>(scope: &Scope<'s>, name: &ArcStr) -> Result<Name<'s>, Refusal>
     requires { length (scope_view scope.now) ≤ most_locals }
     ensures found { IfOk result (IsName (text_view name.now) (scope_view scope.now)) }
     ensures fault { IfErr result (λ e.
@@ -90,12 +90,12 @@ fn attribute_type(alloc: Global, id: AttrId) -> Result<CelType, AllocError>
         AttrType::Int => Ok(CelType::Int),
         AttrType::Uint => Ok(CelType::Uint),
         AttrType::Bool => Ok(CelType::Bool),
-        AttrType::TextMap => Ok(CelType::Map(KeyType::Text, Rc::new(alloc, CelType::Text)?)),
+        AttrType::TextMap => Ok(CelType::Map(KeyType::Text, Arc::new(alloc, CelType::Text)?)),
     }
 }
 
 /// The root that an expression is; none if it is anything but a root that no local hides.
-pub(super) fn bare_root<'t>(tree: &'t Tree, scope: &Scope<'_>) -> Option<&'t RcStr>
+pub(super) fn bare_root<'t>(tree: &'t Tree, scope: &Scope<'_>) -> Option<&'t ArcStr>
     requires { length (scope_view scope.now) ≤ most_locals }
     ensures { option_map (λ name. text_view name.now) result ≡ root_of (tree_view tree.now) (scope_view scope.now) }
 {
@@ -108,7 +108,7 @@ pub(super) fn bare_root<'t>(tree: &'t Tree, scope: &Scope<'_>) -> Option<&'t RcS
     None
 }
 
-fn is_bare_root(name: &RcStr, scope: &Scope<'_>) -> bool
+fn is_bare_root(name: &ArcStr, scope: &Scope<'_>) -> bool
     requires { length (scope_view scope.now) ≤ most_locals }
     ensures { result ≡ bare_root (text_view name.now) (scope_view scope.now) }
 {

@@ -29,7 +29,7 @@ use cel_types::TypedExpr;
 use cel_value::CelType;
 use proto_wire::Fault;
 use std::alloc::Global;
-use std::rc::RcStr;
+use std::sync::ArcStr;
 
 /// Checks an expression: its node, and then the node's type entry.
 #[cycle(check)]
@@ -118,7 +118,7 @@ fn check_select<'a>(
     scope: &Scope<'_>,
     id: i64,
     operand: &'a Tree,
-    field: &'a RcStr,
+    field: &'a ArcStr,
     test_only: bool,
 ) -> Result<TypedExpr<'a>, Fault>
     requires { length (scope_view scope.now) + locals_in (tree_view operand.now) ≤ most_locals }

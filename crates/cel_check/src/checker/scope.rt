@@ -11,7 +11,7 @@ ghost use Rattle.cel_check.specs.steps.Kinds.{second_type};
 ghost use Rattle.cel_check.specs.steps.Scopes.{found_slot, found_type, scope_view};
 
 use cel_value::CelType;
-use std::rc::RcStr;
+use std::sync::ArcStr;
 
 /// The locals in scope, the innermost first.
 #[derive(Clone, Copy)]
@@ -19,7 +19,7 @@ use std::rc::RcStr;
 pub(super) enum Scope<'s> {
     Empty,
     Local {
-        name: &'s RcStr,
+        name: &'s ArcStr,
         cel_type: &'s CelType,
         outer: &'s Scope<'s>,
     },
@@ -35,7 +35,7 @@ pub(super) struct FoundLocal<'s> {
 
 impl<'s> Scope<'s> {
     /// The scope with one more local.
-    pub(super) fn with(&'s self, name: &'s RcStr, cel_type: &'s CelType) -> Scope<'s>
+    pub(super) fn with(&'s self, name: &'s ArcStr, cel_type: &'s CelType) -> Scope<'s>
         ensures { scope_view result ≡ (text_view name.now, type_view cel_type.now) ∷ scope_view self.now }
     {
         Scope::Local {
@@ -46,7 +46,11 @@ impl<'s> Scope<'s> {
     }
 
     /// The scope with one more local, if there is a type for it.
-    pub(super) fn with_second(&'s self, name: &'s RcStr, cel_type: &'s Option<CelType>) -> Scope<'s>
+    pub(super) fn with_second(
+        &'s self,
+        name: &'s ArcStr,
+        cel_type: &'s Option<CelType>,
+    ) -> Scope<'s>
         ensures { scope_view result
             ≡ bound (text_view name.now ∷ []) (second_type cel_type.now) ++ scope_view self.now }
     {
@@ -57,7 +61,7 @@ impl<'s> Scope<'s> {
     }
 
     /// The innermost local of a name.
-    pub(super) fn find(&self, name: &RcStr) -> Option<FoundLocal<'s>>
+    pub(super) fn find(&self, name: &ArcStr) -> Option<FoundLocal<'s>>
         requires { length (scope_view self.now) ≤ most_locals }
         ensures kind { option_map found_type result ≡ local (text_view name.now) (scope_view self.now) }
         ensures slot { option_map found_slot result ≡ slot (text_view name.now) (scope_view self.now) }
@@ -93,7 +97,7 @@ impl<'s> Scope<'s> {
 }
 
 /// Whether two names are the same.
-pub(super) fn same_names(left: &RcStr, right: &RcStr) -> bool
+pub(super) fn same_names(left: &ArcStr, right: &ArcStr) -> bool
     ensures { result ≡ bytes_eq (text_view left.now) (text_view right.now) }
 {
     left == right

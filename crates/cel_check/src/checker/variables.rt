@@ -27,7 +27,7 @@ use cel_types::{TypedExpr, joined_name};
 use cel_value::CelType;
 use proto_wire::Refusal;
 use std::alloc::Global;
-use std::rc::RcStr;
+use std::sync::ArcStr;
 
 /// Checks an Ident: a local or an attribute, and its reference entry.
 pub(super) fn check_ident<'a>(
@@ -35,7 +35,7 @@ pub(super) fn check_ident<'a>(
     checked: &Checked,
     scope: &Scope<'_>,
     id: i64,
-    name: &RcStr,
+    name: &ArcStr,
 ) -> Result<TypedExpr<'a>, Refusal>
     requires { length (scope_view scope.now) ≤ most_locals }
     ensures found { IfOk result (λ e. IsNode (maps_of (checked_view checked.now)) (scope_view scope.now)
@@ -53,8 +53,8 @@ pub(super) fn check_attribute<'a>(
     alloc: Global,
     refs: &ReferenceMap,
     id: i64,
-    root: &RcStr,
-    field: &RcStr,
+    root: &ArcStr,
+    field: &ArcStr,
     test_only: bool,
 ) -> Result<TypedExpr<'a>, Refusal>
     ensures found { IfOk result (λ e. IsAttribute (get (references_view refs.now) id)
@@ -73,7 +73,7 @@ pub(super) fn check_attribute<'a>(
 pub(super) fn field_expr<'a>(
     alloc: Global,
     map: TypedExpr<'a>,
-    name: &'a RcStr,
+    name: &'a ArcStr,
     test_only: bool,
 ) -> Result<TypedExpr<'a>, Refusal>
     ensures found { IfOk result (λ e. (t : ValueType) × (kind (expr_view map.entry) ≡ map_type keys.Text t)

@@ -1,8 +1,8 @@
 -- The results of the plain evaluator's steps.
 use Rattle.std.specs.Prelude.{ℕ, Bool, true, false, ◌&&◌, List, [], ◌∷◌, ◌++◌, Option, Some, None, Result, is_some, map, option_map}
 use Rattle.std.specs.declared.alloc.Global.{Global}
-use Rattle.std.specs.declared.rc.Rc.{Rc}
-use Rattle.std.specs.declared.rc.RcStr.{RcStr}
+use Rattle.std.specs.declared.sync.Arc.{Arc}
+use Rattle.std.specs.declared.sync.ArcStr.{ArcStr}
 use Rattle.std.specs.Option.{option_and_then}
 use Rattle.attributes.specs.Request.{RequestValue}
 use Rattle.cel_tree.specs.View.{LoopParts}
@@ -23,11 +23,11 @@ use Rattle.cel_meaning.specs.declared.place.Place.{Place}
 use Rattle.cel_meaning.specs.declared.place.Placed.{Placed}
 
 -- a place that may be shared, if there is one
-abbrev pub shared_view : Option (Rc Place Global) → Option CelPlace
+abbrev pub shared_view : Option (Arc Place Global) → Option CelPlace
 shared_view place = option_map (λ p. place_view p.value) place
 
 -- the names and placed answers of locals, the innermost first
-abbrev pub known_view : List (RcStr Global × Placed) → Scope CelPlaced
+abbrev pub known_view : List (ArcStr Global × Placed) → Scope CelPlaced
 known_view known = map (λ local. (text_view local.0, placed_view local.1)) known
 
 -- what is around a part
