@@ -8,7 +8,7 @@ use Rattle.cel_tree.specs.steps.Values.{ValuesFault}
 use Rattle.proto_wire.specs.Oneof.{last_number}
 use Rattle.cel_tree.specs.Nodes.{entry_field, key_members, EntryLacks, EntryWrong, key_of_message, IsMapEntry, AreEntries}
 use Rattle.cel_read.specs.steps.EntryViews.{entry_node_view, entry_nodes_view}
-use Rattle.cel_read.specs.declared.literals.EntryNode.{EntryNode}
+use Rattle.cel_read.specs.declared.parsed.EntryNode.{EntryNode}
 
 -- no key counts, or that of a message
 pub key_bad : (fs : List Wire) (e : Refusal)

@@ -17,7 +17,7 @@ use Rattle.cel_tree.specs.steps.TreeViews.{trees_view, tree_entries_view, loop_v
 use Rattle.cel_read.specs.steps.EntryViews.{entry_nodes_view}
 use Rattle.cel_read.specs.Places.{NamesExpr, OwnFault, SomeFaultAt, TreeFaultAt}
 use Rattle.cel_read.specs.steps.Inside.{Inside, IsTarget, target_nodes, EntryTrees, AreEntryTrees, AreLoopTrees, AreTwoTrees}
-use Rattle.cel_read.specs.declared.literals.EntryNode.{EntryNode}
+use Rattle.cel_read.specs.declared.parsed.EntryNode.{EntryNode}
 use Rattle.cel_tree.specs.declared.tree.Constant as constants
 use Rattle.cel_tree.specs.declared.tree.TreeEntry.{TreeEntry}
 use Rattle.cel_tree.specs.declared.tree.Comprehension as loops

@@ -11,6 +11,7 @@ mod message;
 mod node;
 mod node_id;
 mod operands;
+mod parsed;
 mod read;
 mod reference;
 mod type_entry;

@@ -14,7 +14,7 @@ ghost use Rattle.cel_read.specs.steps.NodeViews.{node_view};
 ghost use Rattle.cel_read.specs.steps.EntryViews.{entry_node_view, entry_nodes_view};
 
 use crate::fields::run_payloads;
-use crate::node::Node;
+use crate::parsed::{EntryNode, Node};
 use proto_wire::{
     Field, Key, Payloads, Refusal, bool_at, bytes_at, has_field, int64_at, keys, last_number,
     payloads_of, read_message, require_payload,
@@ -51,14 +51,6 @@ static ENTRY: [Key; 5] =
 
 /// The members of the oneof of an Entry.
 static ENTRY_KEY: [Key; 2] = keys![Len FIELD_KEY, Len MAP_KEY];
-
-/// An entry whose own message is read; its key and its value are unread parts.
-#[derive(Drop)]
-pub(crate) struct EntryNode<'a> {
-    pub id: i64,
-    pub key: Payloads<'a>,
-    pub value: Payloads<'a>,
-}
 
 /// Reads a CreateList from its parts.
 pub(crate) fn read_list<'a>(alloc: Global, parts: &[&'a [u8]]) -> Result<Node<'a>, Refusal>

@@ -12,7 +12,7 @@ ghost use Rattle.cel_tree.specs.steps.Values.{ValuesFault};
 ghost use Rattle.cel_read.specs.steps.NodeViews.{node_view};
 
 use crate::fields::{name_at, two_payloads_of};
-use crate::node::Node;
+use crate::parsed::{LoopNode, Node};
 use proto_wire::{
     Field, Key, Payloads, Refusal, keys, payloads_of, read_message, require_payload, text_at,
 };
@@ -39,19 +39,6 @@ static COMPREHENSION: [Key; 8] = keys![
     Len ITER_VAR, Len ITER_RANGE, Len ACCU_VAR, Len ACCU_INIT, Len LOOP_CONDITION, Len LOOP_STEP,
     Len RESULT, Len ITER_VAR2
 ];
-
-/// A comprehension whose own message is read; the expressions inside are unread parts.
-#[derive(Drop)]
-pub(crate) struct LoopNode<'a> {
-    pub iter_var: ArcStr,
-    pub iter_var2: ArcStr,
-    pub accu_var: ArcStr,
-    pub iter_range: Payloads<'a>,
-    pub accu_init: Payloads<'a>,
-    pub loop_condition: Payloads<'a>,
-    pub loop_step: Payloads<'a>,
-    pub result: Payloads<'a>,
-}
 
 /// Reads a Comprehension from its parts.
 pub(crate) fn read_loop<'a>(alloc: Global, parts: &[&'a [u8]]) -> Result<Node<'a>, Refusal>

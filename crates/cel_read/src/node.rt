@@ -14,13 +14,13 @@ ghost use Rattle.cel_read.specs.steps.NodeViews.{node_view, numbered_view};
 
 use crate::constant::read_constant;
 use crate::fields::run_payloads;
-use crate::literals::{EntryNode, read_list, read_struct};
-use crate::loops::{LoopNode, read_loop};
+use crate::literals::{read_list, read_struct};
+use crate::loops::read_loop;
 use crate::operands::{read_call, read_ident, read_select};
-use cel_tree::{Constant, NODE_ID, NodeKind};
-use proto_wire::{Field, Key, Payloads, Refusal, int64_at, keys, last_number, read_message};
+use crate::parsed::Node;
+use cel_tree::{NODE_ID, NodeKind};
+use proto_wire::{Field, Key, Refusal, int64_at, keys, last_number, read_message};
 use std::alloc::Global;
-use std::sync::ArcStr;
 
 const CONST_EXPR: u32 = 3;
 
@@ -46,27 +46,6 @@ static KINDS: [Key; 7] = keys![
     Len CONST_EXPR, Len IDENT_EXPR, Len SELECT_EXPR, Len CALL_EXPR, Len LIST_EXPR, Len STRUCT_EXPR,
     Len COMPREHENSION_EXPR
 ];
-
-/// A node whose own message is read; the expressions inside are unread parts.
-#[derive(Drop)]
-pub(crate) enum Node<'a> {
-    Constant(Constant),
-    Ident(ArcStr),
-    Select {
-        operand: Payloads<'a>,
-        field: ArcStr,
-        test_only: bool,
-    },
-    /// A call without a target has no parts of it.
-    Call {
-        function: ArcStr,
-        target: Payloads<'a>,
-        args: Payloads<'a>,
-    },
-    List(Payloads<'a>),
-    Map(Vec<EntryNode<'a>>),
-    Comprehension(LoopNode<'a>),
-}
 
 /// The last member of an Expr, which determines its node.
 #[derive(Clone, Copy, Debug)]

@@ -10,7 +10,7 @@ ghost use Rattle.cel_tree.specs.steps.Values.{ValuesFault};
 ghost use Rattle.cel_read.specs.steps.NodeViews.{node_view};
 
 use crate::fields::{name_at, two_payloads_of};
-use crate::node::Node;
+use crate::parsed::Node;
 use proto_wire::{
     Field, Key, Refusal, bool_at, keys, payloads_of, read_message, require_payload, text_at,
 };

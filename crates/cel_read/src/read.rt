@@ -18,10 +18,9 @@ ghost use Rattle.cel_read.specs.steps.Inside.{AreEntryTrees, AreLoopTrees, AreTw
 ghost use Rattle.cel_read.specs.steps.NodeViews.{loop_node_view, node_view};
 
 use crate::fields::number_of;
-use crate::literals::EntryNode;
-use crate::loops::LoopNode;
-use crate::node::{Node, read_node};
+use crate::node::read_node;
 use crate::node_id::fault_of_expr;
+use crate::parsed::{EntryNode, LoopNode, Node};
 use cel_tree::{Comprehension, Tree, TreeEntry, both};
 use proto_wire::{Fault, Payloads, Refusal, require_level};
 use std::alloc::{AllocError, Global};

@@ -2,8 +2,8 @@
 use Rattle.std.proofs.Common.{◌≡◌, ℕ, List, [], ◌∷◌, Option, Some, None, codes, false, map, refl}
 use Rattle.http_front.specs.declared.fault.HeadFault.{HeadFault}
 use Rattle.proto_wire.specs.declared.refusal.Refusal.{Refusal}
-use Rattle.rbac_policy.specs.declared.trials.Reason.{Reason}
-use Rattle.rbac_policy.specs.declared.trials.Reason.TheVariants.{NoPermission, NoPrincipal, Matches, ConditionFalse, ConditionFails, ConditionTrue}
+use Rattle.rbac_policy.specs.declared.reason.Reason.{Reason}
+use Rattle.rbac_policy.specs.declared.reason.Reason.TheVariants.{NoPermission, NoPrincipal, Matches, ConditionFalse, ConditionFails, ConditionTrue}
 use Rattle.serde_json.specs.Data.{string}
 use Rattle.serde_json.specs.View.{items_of}
 use Rattle.serde_json.specs.Written.{has_float, items_have_float}

@@ -11,8 +11,8 @@ use Rattle.cel_tree.specs.Checked.{CelChecked}
 use Rattle.cel_value.specs.Names.{error_name}
 use Rattle.rbac_policy.specs.Filter.{Filter}
 use Rattle.rbac_policy.specs.Trials.{AreTrials, HasReason, Means, TakesSteps}
-use Rattle.rbac_policy.specs.declared.trials.Reason.{Reason}
-use Rattle.rbac_policy.specs.declared.trials.Reason.TheVariants.{NoPermission, NoPrincipal, Matches, ConditionFalse, ConditionFails, ConditionTrue}
+use Rattle.rbac_policy.specs.declared.reason.Reason.{Reason}
+use Rattle.rbac_policy.specs.declared.reason.Reason.TheVariants.{NoPermission, NoPrincipal, Matches, ConditionFalse, ConditionFails, ConditionTrue}
 use Rattle.rbac_policy.specs.declared.trials.Trial.{Trial}
 use Rattle.serde_json.specs.Data.{Data, number, unsigned, string, array, object, Members, member, no_members}
 use Rattle.serde_json.specs.View.{items_of}

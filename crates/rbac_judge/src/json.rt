@@ -2,7 +2,7 @@
 ghost use Rattle.std.specs.Prelude.{◌≡◌, IfOk, None, Some, codes, map, option_map, string_bytes};
 ghost use Rattle.serde_json.specs.Data.{array, member, no_members, object};
 ghost use Rattle.serde_json.specs.View.{items_of, view};
-ghost use Rattle.rbac_policy.specs.declared.trials.Reason.TheVariants.{ConditionFails, ConditionTrue};
+ghost use Rattle.rbac_policy.specs.declared.reason.Reason.TheVariants.{ConditionFails, ConditionTrue};
 ghost use Rattle.rbac_judge.specs.Explain.{causes_json, own_trial_view, reason_json, told_in, told_trial_view, trial_json, trial_members};
 ghost use Rattle.rbac_judge.specs.Json.{admitted_json, head_json, json_of, matched_json, text_json, refused_json, untold, verdict_json, why_view};
 

@@ -22,8 +22,8 @@ use Rattle.rbac_policy.specs.Filter.{Filter, Policy}
 use Rattle.rbac_policy.specs.Named.{named_view, named_views, policy_view}
 use Rattle.rbac_policy.specs.Trials.{AreTrials, HasReason, IsReasonOf, Means, TakesSteps, is_match}
 use Rattle.rbac_policy.specs.declared.policy.NamedPolicy.{NamedPolicy}
-use Rattle.rbac_policy.specs.declared.trials.Reason.{Reason}
-use Rattle.rbac_policy.specs.declared.trials.Reason.TheVariants.{NoPermission, NoPrincipal, Matches, ConditionFalse, ConditionFails, ConditionTrue}
+use Rattle.rbac_policy.specs.declared.reason.Reason.{Reason}
+use Rattle.rbac_policy.specs.declared.reason.Reason.TheVariants.{NoPermission, NoPrincipal, Matches, ConditionFalse, ConditionFails, ConditionTrue}
 use Rattle.rbac_policy.specs.declared.trials.Trial.{Trial}
 use Rattle.stack_machine.specs.declared.error.RunError.{RunError}
 use Rattle.rbac_policy.specs.steps.Runs.{IsFirst, RunsAs, Tells}

@@ -11,8 +11,8 @@ use Rattle.machine_code.specs.Machine.{Ends}
 use Rattle.rbac_policy.specs.Condition.{IsProgramOf, Program}
 use Rattle.rbac_policy.specs.Filter.{Policy}
 use Rattle.rbac_policy.specs.Verdict.{sides_match}
-use Rattle.rbac_policy.specs.declared.trials.Reason.{Reason}
-use Rattle.rbac_policy.specs.declared.trials.Reason.TheVariants.{NoPermission, NoPrincipal, Matches, ConditionFalse, ConditionFails, ConditionTrue}
+use Rattle.rbac_policy.specs.declared.reason.Reason.{Reason}
+use Rattle.rbac_policy.specs.declared.reason.Reason.TheVariants.{NoPermission, NoPrincipal, Matches, ConditionFalse, ConditionFails, ConditionTrue}
 use Rattle.rbac_policy.specs.declared.trials.Trial.{Trial}
 
 -- whether the reason is one to match

@@ -23,7 +23,7 @@ ghost use Rattle.machine_code.specs.Instructions.{code_view};
 ghost use Rattle.machine_code.specs.Machine.{RunsOut};
 ghost use Rattle.machine_code.specs.Typable.{Forward};
 
-use crate::trials::Reason;
+use crate::reason::Reason;
 use attributes::{Limits, Request};
 use cel_check::{check_at, id_of};
 use cel_compile::compile;

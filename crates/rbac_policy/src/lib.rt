@@ -13,6 +13,7 @@ mod numbers;
 mod place;
 mod policy;
 mod policy_index;
+mod reason;
 mod trials;
 mod written;
 
@@ -21,5 +22,6 @@ pub use budget::{OverBudget, over_budget};
 pub use causes::PolicyCauses;
 pub use filter::{Admitted, Verdict};
 pub use place::{place_of, place_of_fault};
-pub use trials::{Reason, Trial};
+pub use reason::Reason;
+pub use trials::Trial;
 pub use written::{WrittenCondition, written_condition};

@@ -9,50 +9,18 @@ ghost use Rattle.rbac_policy.specs.Admitted.{filter_view, limits_view};
 ghost use Rattle.rbac_policy.specs.Condition.{MemoryOrSteps, TakesTooLong, is_met};
 ghost use Rattle.rbac_policy.specs.Filter.{Filter};
 ghost use Rattle.rbac_policy.specs.Named.{named_views, policy_view};
-ghost use Rattle.rbac_policy.specs.Trials.{AreTrials, HasReason, Means, TakesSteps, is_match};
+ghost use Rattle.rbac_policy.specs.Trials.{AreTrials, HasReason, Means, TakesSteps};
 ghost use Rattle.rbac_policy.specs.Verdict.{SomeAsked};
 ghost use Rattle.rbac_policy.specs.steps.Runs.{Asks, PassesBound, SomeAsks};
 ghost use Rattle.rbac_policy.specs.steps.Trials.{HasRunReason};
 
 use crate::filter::Admitted;
 use crate::policy::NamedPolicy;
+use crate::reason::Reason;
 use attributes::{Request, request_is_sound};
-use cel_value::CelError;
 use rbac_match::{RuleList, any_matches};
 use stack_machine::RunError;
 use std::alloc::{AllocError, Global};
-
-/// The reason why a policy matches a request, or does not.
-#[derive(Clone, Copy, PartialEq, Eq, Debug)]
-pub enum Reason {
-    /// No permission matches.
-    NoPermission,
-    /// A permission matches, but no principal does.
-    NoPrincipal,
-    /// The policy matches, and has no condition.
-    Matches,
-    /// The policy's condition is false.
-    ConditionFalse,
-    /// The policy's condition is this error, which is no match.
-    ConditionFails(CelError),
-    /// The policy matches: its condition is true, after `steps` of the `bound` steps that it may take.
-    ConditionTrue { steps: u64, bound: u64 },
-}
-
-impl Reason {
-    /// Whether the policy matches.
-    pub(crate) fn is_match(self) -> bool
-        ensures { result ≡ is_match self }
-    {
-        match self {
-            Reason::Matches | Reason::ConditionTrue { .. } => true,
-            Reason::NoPermission
-            | Reason::NoPrincipal
-            | Reason::ConditionFalse
-            | Reason::ConditionFails(_) => false,
-        }
-    }
-}
 
 /// A policy that was tried: its number, its name, and the reason why it matches or does not.
 #[derive(Clone, Copy, Debug)]

@@ -2,7 +2,7 @@
 use Rattle.std.specs.Prelude.{List, map}
 use Rattle.proto_wire.specs.Merge.{parts_view}
 use Rattle.cel_tree.specs.Nodes as nodes
-use Rattle.cel_read.specs.declared.literals.EntryNode.{EntryNode}
+use Rattle.cel_read.specs.declared.parsed.EntryNode.{EntryNode}
 
 -- an entry
 abbrev pub entry_node_view : EntryNode → nodes.EntryNode

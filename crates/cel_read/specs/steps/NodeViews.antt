@@ -8,9 +8,9 @@ use Rattle.cel_tree.specs.TypeEntries as types
 use Rattle.cel_tree.specs.TypeEntries.{plain, list_of, map_of}
 use Rattle.cel_tree.specs.View.{type_entry_view, constant_view}
 use Rattle.cel_read.specs.steps.EntryViews.{entry_nodes_view}
-use Rattle.cel_read.specs.declared.loops.LoopNode.{LoopNode}
-use Rattle.cel_read.specs.declared.node.Node.{Node}
-use Rattle.cel_read.specs.declared.node.Node.TheVariants as coded
+use Rattle.cel_read.specs.declared.parsed.LoopNode.{LoopNode}
+use Rattle.cel_read.specs.declared.parsed.Node.{Node}
+use Rattle.cel_read.specs.declared.parsed.Node.TheVariants as coded
 use Rattle.cel_read.specs.declared.type_node.TypeNode.{TypeNode}
 use Rattle.cel_read.specs.declared.type_node.TypeNode.TheVariants as type_nodes
 

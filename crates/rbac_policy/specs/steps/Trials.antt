@@ -6,7 +6,7 @@ use Rattle.machine_code.specs.Machine.{Ends}
 use Rattle.rbac_policy.specs.Condition.{Program}
 use Rattle.rbac_policy.specs.Filter.{Policy}
 use Rattle.rbac_policy.specs.Trials.{HasReason}
-use Rattle.rbac_policy.specs.declared.trials.Reason.{Reason}
+use Rattle.rbac_policy.specs.declared.reason.Reason.{Reason}
 
 -- the program's run ends with this answer, within its bound
 abbrev pub EndsWith : RequestValue → Program → CelAnswer → Type 0

@@ -1,6 +1,6 @@
 use Rattle.std.proofs.Common.{◌≡◌, ◌+◌, ◌-◌, ℕ, ℤ, w64, to_z, of_z, to_z-of_z, subst, ◌++◌, take, List, [], ◌∷◌, get_or, Bor, inl, inr, arith, sym, ap, ◌∙◌}
 use Rattle.std.proofs.lemmas.List.{take_more}
-use Rattle.cel_read.specs.declared.literals.EntryNode.{EntryNode}
+use Rattle.cel_read.specs.declared.parsed.EntryNode.{EntryNode}
 use Rattle.cel_tree.specs.declared.tree.Tree.{Tree}
 use Rattle.cel_tree.specs.declared.tree.TreeEntry.{TreeEntry}
 use Rattle.std.proofs.lemmas.Result.{MatchResult-weaker}
