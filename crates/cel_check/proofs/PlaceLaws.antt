@@ -10,7 +10,7 @@ use Rattle.cel_value.specs.Types.{ValueType}
 use Rattle.cel_tree.specs.Checked.{CelChecked, CelReference, CelTypeEntry}
 use Rattle.cel_tree.specs.Places.{NamesNode, PlacedOr}
 use Rattle.cel_tree.specs.Tree.{CelTree, constant, ident, select, call, list_literal, map_literal, comprehension, CelTarget, no_target, target, CelTrees, no_trees, tree, CelTreeEntries, no_tree_entries, tree_entry}
-use Rattle.cel_types.specs.Names.{root_of, turn_scope}
+use Rattle.cel_types.specs.Names.{turn_scope}
 use Rattle.cel_types.specs.Typing.{Kinds, Maps, Types, maps_of}
 use Rattle.cel_types.specs.TypingFaults.{CallsFault, CheckFault, ElementsFault, ItemTypes, KeyTypes, ListFault, LoopFault, MapsFault, PairFault, PairsFault, SelectFault, SomeFault, SomeTypes, TargetFault, TypeFault}
 use Rattle.cel_types.specs.TypingFaults.{no_element_name, no_accumulator_name, one_name, one_variable, second_accumulator, no_elements, no_condition, no_step as faulty_step, in_range, in_init, in_turn as faulty_turn, in_result}

@@ -1,7 +1,7 @@
 -- At which node of an expression a fault of its types is.
-use Rattle.std.specs.Prelude.{◌≡◌, ◌⊎◌, ◌<◌, ℕ, ℤ, false, List, [], ◌∷◌, None}
+use Rattle.std.specs.Prelude.{◌≡◌, ◌⊎◌, ◌<◌, ℤ, false, List, [], ◌∷◌, None}
 use Rattle.std.specs.FinMap.{get}
-use Rattle.proto_wire.specs.Places.{Path, path_at}
+use Rattle.proto_wire.specs.Places.{Path}
 use Rattle.proto_wire.specs.declared.refusal.Refusal.{Refusal}
 use Rattle.proto_wire.specs.declared.refusal.Refusal.TheVariants.{TooLarge}
 use Rattle.cel_value.specs.Types.{ValueType}

@@ -1,7 +1,6 @@
 -- A fault at its place is a fault.
-use Rattle.std.proofs.Common.{◌≡◌, ◌⊎◌, inl, inr, ◌<◌, ◌+◌, ℕ, zero, suc, List, [], ◌∷◌, arith}
-use Rattle.std.specs.FinMap.{entries}
-use Rattle.proto_wire.specs.Maps.{Entry, MapFault, SomeValueFault, int64, in_entry, in_value, map_of}
+use Rattle.std.proofs.Common.{inl, inr, ℕ, zero, suc, List, [], ◌∷◌, arith}
+use Rattle.proto_wire.specs.Maps.{MapFault, int64, in_entry, in_value}
 use Rattle.proto_wire.specs.Fields.{Wire}
 use Rattle.proto_wire.specs.Places.{Path}
 use Rattle.proto_wire.specs.declared.refusal.Refusal.{Refusal}
@@ -12,7 +11,7 @@ use Rattle.cel_tree.specs.Reading as reading
 use Rattle.cel_tree.specs.Trees.{in_node}
 use Rattle.cel_tree.specs.steps.Values.{ValuesFault}
 use Rattle.cel_tree.proofs.Readers.{values_fault}
-use Rattle.cel_read.specs.Places.{OwnFault, too_deep, too_many, of_message, FirstAt, TreeFaultAt, SomeFaultAt, ValueFaultAt, MapFaultAt, of_payload, of_value, CheckedWrongAt, no_expr, in_expr, in_types, in_refs, CheckedFaultAt, of_fields, in_fields, ExprFaultAt}
+use Rattle.cel_read.specs.Places.{OwnFault, too_deep, too_many, of_message, TreeFaultAt, SomeFaultAt, MapFaultAt, of_payload, of_value, CheckedWrongAt, no_expr, in_expr, in_types, in_refs, CheckedFaultAt, of_fields, in_fields, ExprFaultAt}
 use Rattle.cel_read.proofs.Counting.{TreeFails, SomeFails, node_fails, one_there}
 
 own_fails : (depth left : ℕ) (parts : Parts) (e : Refusal) → OwnFault depth left parts e → TreeFails depth left parts e

@@ -1,5 +1,5 @@
 -- The fault of a part is one of the filter that has the part, and what a `?` passes on of its place.
-use Rattle.std.proofs.Common.{◌≡◌, ◌≢◌, ◌<◌, ◌⊎◌, arith, ℕ, zero, suc, List, [], ◌∷◌, ◌++◌, append_assoc, append-nil, Some, None, take, map, Result, Ok, Err, IfErr, inl, inr, refl, sym, ap, subst, length, get_or, ◌∙◌}
+use Rattle.std.proofs.Common.{◌≡◌, ◌≢◌, ◌<◌, ◌⊎◌, arith, ℕ, zero, suc, List, [], ◌∷◌, ◌++◌, append_assoc, Some, None, take, map, Result, Ok, Err, IfErr, inl, inr, refl, sym, ap, subst, length, get_or, ◌∙◌}
 use Rattle.std.specs.FinMap.{entries, entries_sorted, find}
 use Rattle.std.specs.Prelude.{IfOk, IsErrAnd, MatchResult, slice_get}
 use Rattle.std.specs.Cmp.Lexicographic.{nat_list_cmp_total}
@@ -18,7 +18,7 @@ use Rattle.proto_wire.specs.Fields.{Wire}
 use Rattle.proto_wire.specs.Maps.{Entry, text, Readable, map_of, in_value}
 use Rattle.proto_wire.specs.Merge.{Merges}
 use Rattle.proto_wire.specs.Messages.{MessageFault}
-use Rattle.proto_wire.specs.Places.{Path, End, IsAt as IsOf, IsInside, FaultOr, MessagePlace, path_at, path_of}
+use Rattle.proto_wire.specs.Places.{Path, End, IsAt as IsOf, IsInside, FaultOr, MessagePlace, path_of}
 use Rattle.proto_wire.specs.Refusal.{MemoryOr}
 use Rattle.proto_wire.specs.Values.{payloads}
 use Rattle.proto_wire.specs.declared.key.Key.{Key}
@@ -40,7 +40,7 @@ use Rattle.rbac_match.proofs.Places.{at_in}
 use Rattle.rbac_policy.specs.Fault.{PolicyFault, RulesFault, in_permission, in_principal, in_policies, in_rules, rules_fields, unreadable, untyped, not_bool}
 use Rattle.rbac_policy.specs.Keys.{filter_field, rules_field}
 use Rattle.rbac_policy.specs.Message.{condition_in, rule_depth}
-use Rattle.rbac_policy.specs.Places.{Part, of_filter, of_rules, of_policy, of_condition, in_condition, in_rule, ConditionWrong, ConditionWrongAt, unreadable_at, wrong_at, NodeWrongAt, untyped_at, not_bool_at, IsOfExpr, does_not_read, has_no_type, of_another_type, PartFault, side_field, condition_field, StepTo, FaultAt, OfNoPart, PlacedOr, NodeOr, ConditionPartOr, ConditionOr, EntryOr, PoliciesOr, FieldsOr}
+use Rattle.rbac_policy.specs.Places.{Part, of_filter, of_rules, of_policy, of_condition, in_condition, in_rule, ConditionWrong, ConditionWrongAt, unreadable_at, wrong_at, untyped_at, not_bool_at, IsOfExpr, does_not_read, has_no_type, of_another_type, PartFault, side_field, condition_field, StepTo, FaultAt, OfNoPart, PlacedOr, NodeOr, ConditionPartOr, ConditionOr, EntryOr, PoliciesOr, FieldsOr}
 use Rattle.rbac_policy.proofs.Besides.{name_same}
 
 -- ---- outer parts

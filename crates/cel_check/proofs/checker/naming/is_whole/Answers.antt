@@ -1,4 +1,4 @@
-use Rattle.std.proofs.Common.{◌≡◌, ◌∙◌, sym, false, None}
+use Rattle.std.proofs.Common.{◌≡◌, ◌∙◌, sym, false}
 use Rattle.std.specs.Prelude.{is_some, not, slice_get}
 use Rattle.proto_wire.specs.Places.{is_cut_short, named_field, path_of}
 use Rattle.cel_check.proofs.PlaceLaws.{no_step, whole}

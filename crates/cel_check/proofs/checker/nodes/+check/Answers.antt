@@ -2,7 +2,7 @@ use Rattle.std.proofs.Common.{arith, rules, ◌≡◌, ◌≢◌, ◌∷◌, inl
 use Rattle.std.proofs.lemmas.Grind.{common_steps}
 use Rattle.cel_tree.specs.declared.tree.Tree.{the_lemmas}
 use Rattle.std.proofs.lemmas.Result.{MatchResult-weaker}
-use Rattle.cel_tree.proofs.PairFacts.{both_found, both_fault, kept_found, kept_fault}
+use Rattle.cel_tree.proofs.PairFacts.{both_found, both_fault, kept_found}
 use Rattle.cel_tree.proofs.PlacedExits.{exit_placed, exit_unplaced, exit_unplaced_or, last_placed}
 use Rattle.std.specs.FinMap.{get}
 use Rattle.cel_tree.specs.Tree.{call, ident, list_literal, map_literal, select}

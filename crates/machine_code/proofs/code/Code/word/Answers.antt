@@ -1,9 +1,8 @@
 -- The instruction at a position is that of the word there.
-use Rattle.std.proofs.Common.{◌≡◌, ◌≢◌, ◌<◌, length, ap, Some, None, arith, refl, ◌∙◌, sym}
+use Rattle.std.proofs.Common.{◌<◌, length, ap, arith, refl}
 use Rattle.std.proofs.lemmas.List.{length-map}
 use Rattle.std.proofs.lemmas.Option.{slice_get-map, slice_get_read}
-use Rattle.machine_code.specs.Instructions.{instr_view}
-use Rattle.machine_code.specs.steps.Packing.{instr_at, spelled, IsSpelled}
+use Rattle.machine_code.specs.steps.Packing.{instr_at, spelled}
 use Rattle.machine_code.specs.steps.Beside.{parts}
 use Rattle.machine_code.proofs.Growing.{instr_there, some_spelled}
 use Rattle.machine_code.proofs.code.Code.word.Goals as goal

@@ -1,5 +1,5 @@
 -- What a known kind makes stands in its pool.
-use Rattle.std.proofs.Common.{◌≡◌, Some, rules, refl}
+use Rattle.std.proofs.Common.{rules, refl}
 use Rattle.std.specs.Prelude.{slice_get, option_map}
 use Rattle.std.proofs.lemmas.Option.{slice_get_read}
 use Rattle.cel_value.specs.declared.cel_type.KeyType.{KeyType}

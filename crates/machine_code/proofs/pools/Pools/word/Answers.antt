@@ -1,5 +1,5 @@
 -- A word spells what its parts make.
-use Rattle.std.proofs.Common.{◌≡◌, Some, rules, arith}
+use Rattle.std.proofs.Common.{rules, arith}
 use Rattle.machine_code.proofs.Growing.{parts_of_word}
 use Rattle.machine_code.proofs.pools.Pools.word.Goals as goal
 
