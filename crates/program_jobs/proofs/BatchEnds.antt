@@ -19,7 +19,7 @@ use Rattle.program_jobs.specs.declared.job_fault.JobFault.{JobFault}
 use Rattle.program_jobs.specs.declared.job_fault.JobFault.TheVariants as faults
 use Rattle.rbac_judge.specs.declared.json.Why.{Why}
 use Rattle.rbac_judge.specs.declared.outcome.Outcome.TheVariants as outcomes
-use Rattle.rbac_judge.specs.declared.outcome.Report.{Report}
+use Rattle.rbac_judge.specs.declared.report.Report.{Report}
 use Rattle.command_line.specs.declared.words.BatchWords.{BatchWords}
 
 -- nothing before an input

@@ -28,7 +28,7 @@ use Rattle.rbac_judge.specs.declared.head_lines.HeadLine.{HeadLine}
 use Rattle.rbac_judge.specs.declared.explain.Explanation.TheVariants as explanations
 use Rattle.rbac_judge.specs.steps.Printed.{without_memory}
 use Rattle.rbac_judge.specs.declared.outcome.Outcome.TheVariants as outcomes
-use Rattle.rbac_judge.specs.declared.outcome.Report.{Report}
+use Rattle.rbac_judge.specs.declared.report.Report.{Report}
 use Rattle.rbac_judge.specs.Json.{untold}
 
 -- the text of one answer more

@@ -19,7 +19,7 @@ use Rattle.rbac_judge.specs.Outcome.{printed_of}
 use Rattle.program_texts.specs.Output.{BreaksOff}
 use Rattle.program_texts.specs.InputLines.{AreLines}
 use Rattle.rbac_judge.specs.declared.outcome.Outcome.TheVariants as outcomes
-use Rattle.rbac_judge.specs.declared.outcome.Report.{Report}
+use Rattle.rbac_judge.specs.declared.report.Report.{Report}
 use Rattle.program_texts.specs.declared.replay_fault.ReplayFault.{ReplayFault}
 use Rattle.program_texts.specs.declared.replay_fault.ReplayFault.TheVariants as faults
 

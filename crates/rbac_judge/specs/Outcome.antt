@@ -9,7 +9,7 @@ use Rattle.rbac_judge.specs.Explain.{told_in, with_trials}
 use Rattle.rbac_judge.specs.Json.{json_of, why_view}
 use Rattle.rbac_judge.specs.declared.outcome.Outcome.{Outcome}
 use Rattle.rbac_judge.specs.declared.outcome.Outcome.TheVariants as outcomes
-use Rattle.rbac_judge.specs.declared.outcome.Report.{Report}
+use Rattle.rbac_judge.specs.declared.report.Report.{Report}
 
 -- the number of the policy that matched, or `-`
 abbrev pub matched_text : Option ℕ → List ℕ

@@ -13,14 +13,14 @@ ghost use Rattle.rbac_judge.specs.Batches.{AreFactsOr, IsBatch, IsCutShort, IsTo
 ghost use Rattle.rbac_judge.specs.Outcome.{printed_of};
 ghost use Rattle.rbac_judge.specs.steps.Batching.{BreaksOutput, IsAnsweredBy, IsIdText, IsLineOf, IsPlainAnswer, IsReportAt, IsReportOf, IsSomeHeadLine, LacksHead, OfPolicies};
 ghost use Rattle.rbac_judge.specs.steps.Printed.{without_memory};
-ghost use Rattle.rbac_judge.specs.declared.outcome.Report.{Report};
+ghost use Rattle.rbac_judge.specs.declared.report.Report.{Report};
 ghost use Rattle.program_texts.specs.declared.line_fault.LineFault.TheVariants.{BadLine};
 
 use crate::explain::Explaining;
 use crate::head_lines::{HeadLine, read_head_line};
 use crate::judge::{finding_of_ask, memory_line};
 use crate::notes::Notes;
-use crate::outcome::Report;
+use crate::report::Report;
 use attributes::{Conn, Limits};
 use http_front::read_head;
 use program_texts::{

@@ -13,14 +13,15 @@ ghost use Rattle.rbac_policy.specs.Admission.{Admissible};
 ghost use Rattle.rbac_policy.specs.Verdict.{IsUnconditional};
 ghost use Rattle.rbac_judge.specs.Outcome.{printed_of};
 ghost use Rattle.rbac_judge.specs.steps.Printed.{IsPrintedFor, without_memory};
-ghost use Rattle.rbac_judge.specs.declared.outcome.Report.{Report};
+ghost use Rattle.rbac_judge.specs.declared.report.Report.{Report};
 ghost use Rattle.program_texts.specs.Output.{BreaksOff};
 ghost use Rattle.rbac_judge.specs.steps.Judged.{IsAnswerTo, IsExplanationOf, IsNameOf, IsOutcomeOfAsk, IsOutcomeUnder, bare, report_with};
 
 use crate::explain::{Explaining, Explanation, own_trials};
 use crate::input::read_ask;
 use crate::json::Why;
-use crate::outcome::{Outcome, Report};
+use crate::outcome::Outcome;
+use crate::report::Report;
 use attributes::{Conn, Limits, Request};
 use http_front::{HeadAsk, HeadFault};
 use program_texts::write_whole;

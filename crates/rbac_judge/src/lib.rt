@@ -12,9 +12,11 @@ mod json;
 pub mod judge;
 mod notes;
 mod outcome;
+mod report;
 
 pub use error_place::place_of_error;
 pub use explain::{Explanation, OwnTrial, untold_text};
 pub use json::Why;
 pub use notes::{Likeness, Notes};
-pub use outcome::{Outcome, Report};
+pub use outcome::Outcome;
+pub use report::Report;

@@ -5,7 +5,7 @@ use Rattle.rbac_judge.specs.steps.Printed.{IsPrintedFor, told_with}
 use Rattle.program_jobs.specs.declared.job_fault.JobFault.{JobFault}
 use Rattle.program_jobs.specs.declared.job_fault.JobFault.TheVariants as faults
 use Rattle.rbac_judge.specs.declared.json.Why.{Why}
-use Rattle.rbac_judge.specs.declared.outcome.Report.{Report}
+use Rattle.rbac_judge.specs.declared.report.Report.{Report}
 
 -- parameters: the bytes of the two outputs before and after, and the status
 module _ (out out_new errors errors_new : Option (List ℕ)) (status : ℕ) where

@@ -18,7 +18,7 @@ use Rattle.program_texts.specs.InputLines.{ReadsLine}
 use Rattle.rbac_judge.specs.steps.Judged.{IsNameOf, IsOutcomeUnder}
 use Rattle.rbac_judge.specs.declared.head_lines.HeadLine.{HeadLine}
 use Rattle.rbac_judge.specs.declared.head_lines.HeadLine.TheVariants.{TooLong, Whole}
-use Rattle.rbac_judge.specs.declared.outcome.Report.{Report}
+use Rattle.rbac_judge.specs.declared.report.Report.{Report}
 use Rattle.program_texts.specs.declared.replay_fault.ReplayFault.{ReplayFault}
 use Rattle.program_texts.specs.declared.replay_fault.ReplayFault.TheVariants as replay_faults
 

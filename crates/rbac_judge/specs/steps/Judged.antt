@@ -20,7 +20,7 @@ use Rattle.rbac_judge.specs.declared.explain.Explanation.TheVariants as explanat
 use Rattle.rbac_judge.specs.declared.judge.Finding.{Finding}
 use Rattle.rbac_judge.specs.declared.outcome.Outcome.{Outcome}
 use Rattle.rbac_judge.specs.declared.outcome.Outcome.TheVariants as outcomes
-use Rattle.rbac_judge.specs.declared.outcome.Report.{Report}
+use Rattle.rbac_judge.specs.declared.report.Report.{Report}
 
 -- the number of the policy that matched, if the outcome has one
 abbrev pub matched_in : Outcome → Option ℕ

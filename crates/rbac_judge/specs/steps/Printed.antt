@@ -5,7 +5,7 @@ use Rattle.rbac_judge.specs.declared.explain.Explanation.{Explanation}
 use Rattle.rbac_judge.specs.declared.explain.Explanation.TheVariants as explanations
 use Rattle.rbac_judge.specs.declared.json.Why.{Why}
 use Rattle.rbac_judge.specs.declared.outcome.Outcome.TheVariants as outcomes
-use Rattle.rbac_judge.specs.declared.outcome.Report.{Report}
+use Rattle.rbac_judge.specs.declared.report.Report.{Report}
 
 -- the report, with why it is no verdict
 abbrev pub told_with : Why → Report → Report

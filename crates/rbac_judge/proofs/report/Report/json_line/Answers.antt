@@ -1,6 +1,6 @@
 use Rattle.std.proofs.Common.{◌∙◌, ◌++◌, ap₂, arith}
 use Rattle.rbac_judge.proofs.JsonLemmas.{outcome_whole}
-use Rattle.rbac_judge.proofs.outcome.Report.json_line.Goals as goal
+use Rattle.rbac_judge.proofs.report.Report.json_line.Goals as goal
 
 pub returns : goal.returns
 returns c =
