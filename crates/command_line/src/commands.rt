@@ -18,21 +18,13 @@ const VERSION: &str = "0.1.0, proved with rattle logic dac8208d650f15bf";
 pub(crate) fn command<'a>(alloc: Global) -> Result<Command<'a>, AllocError>
     ensures { IfOk result (λ c. app_of c ≡ rbacd_app) }
 {
-    let check = check_command(alloc)?;
-    let judge = judge_command(alloc)?;
-    let check_config = check_config_command(alloc)?;
-    let replay = replay_command(alloc)?;
-    let control = control_command(alloc)?;
-    let proxy = proxy_command(alloc)?;
-    let serve = serve_command(alloc)?;
-    bare_command(alloc)
-        .subcommand(check)?
-        .subcommand(judge)?
-        .subcommand(check_config)?
-        .subcommand(replay)?
-        .subcommand(control)?
-        .subcommand(proxy)?
-        .subcommand(serve)
+    let command = bare_command(alloc).subcommand(check_command(alloc)?)?;
+    let command = command.subcommand(judge_command(alloc)?)?;
+    let command = command.subcommand(check_config_command(alloc)?)?;
+    let command = command.subcommand(replay_command(alloc)?)?;
+    let command = command.subcommand(control_command(alloc)?)?;
+    let command = command.subcommand(proxy_command(alloc)?)?;
+    command.subcommand(serve_command(alloc)?)
 }
 
 fn check_command<'a>(alloc: Global) -> Result<Command<'a>, AllocError>
