@@ -1,4 +1,4 @@
-"""README, PROGRAM and PROFILE beside the help of both programs: the same commands, options and numbers."""
+"""README, PROGRAM, PROFILE and the tool's own page beside the help of both programs: the same commands, options and numbers."""
 import re
 import unittest
 
@@ -11,7 +11,8 @@ from policies.program import STATUSES, parser_of_words
 from support import TOP
 
 HELP = TOP / "crates" / "rbacd" / "cases" / "help"
-PAGES = {name: (TOP / name).read_text(encoding="utf-8") for name in ("README.md", "docs/PROGRAM.md", "docs/PROFILE.md")}
+OWN_PAGE = "tools/policy/README.md"
+PAGES = {name: (TOP / name).read_text(encoding="utf-8") for name in ("README.md", "docs/PROGRAM.md", "docs/PROFILE.md", OWN_PAGE)}
 OPTION = re.compile(r"(?<![\w-])--[a-z][a-z-]*")
 
 
@@ -36,7 +37,7 @@ class Documents(unittest.TestCase):
 
     def test_options_of_the_tool(self):
         """Each option that is named beside a command of the tool is one of its own."""
-        _, _, written = PAGES["docs/PROGRAM.md"].partition("## To write a policy")
+        written = PAGES["docs/PROGRAM.md"].partition("## To write a policy")[2] + PAGES[OWN_PAGE]
         own = {name: options(command.format_help()) for name, command in self.commands.items()}
         self.assertLessEqual(options(written), set().union(*own.values()) | options(self.helps["judge"]))
         for name, words in re.findall(r"^\| `policy (\w+)[^|]*\|([^|]*)\|", written, re.MULTILINE):
@@ -82,11 +83,11 @@ class Documents(unittest.TestCase):
                     self.assertEqual(NAMES[int(number)], name)
 
     def test_notes(self):
-        """PROGRAM lists each note by its name."""
-        table = PAGES["docs/PROGRAM.md"].partition("### Notes")[2].partition("\n### ")[0]
+        """The tool's page lists each note by its name."""
+        table = PAGES[OWN_PAGE].partition("## Notes")[2].partition("\n## ")[0]
         self.assertEqual(set(re.findall(r"^\| `([a-z-]+)` \|", table, re.MULTILINE)), set(MEANINGS))
 
     def test_compared(self):
-        """PROGRAM has the numbers up to which `policy diff` tries all combinations."""
-        text = PAGES["docs/PROGRAM.md"]
+        """The tool's page has the numbers up to which `policy diff` tries all combinations."""
+        text = PAGES[OWN_PAGE]
         self.assertIn(f"at most {MOST_LEAVES} different leaves, and at most {MOST_COMBINATIONS:,} requests", text)
