@@ -19,4 +19,5 @@ pub mod Held
 pub mod Framings
 pub mod RuleLemmas
 pub mod Spelling
+pub mod SpelledAsks
 pub mod StandardFacts

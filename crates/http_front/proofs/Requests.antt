@@ -122,7 +122,7 @@ lowered_name name token = IsUtf8-from_token (header.lowercase name) (
 )
 
 -- there are fewer fields than bytes
-few_fields : (fields : List Field) → length fields ≤ length (flat_map print_field fields)
+pub few_fields : (fields : List Field) → length fields ≤ length (flat_map print_field fields)
 few_fields [] = omega arith
 few_fields (f ∷ fields) =
     let all : length (flat_map print_field (f ∷ fields))

@@ -50,7 +50,7 @@ lines_append front back =
     ∙ flat_map-append print_field (map line_of front) (map line_of back)
 
 -- the parts of a head in order are the head
-pub head_written : (method target : List ℕ) (http11 : Bool) (front back : List Entry)
+head_written : (method target : List ℕ) (http11 : Bool) (front back : List Entry)
     → (((((method ++ 32 ∷ []) ++ target) ++ (codes " " ++ print_version (cond http11 1 0) ++ crlf_bytes))
     ++ lines_text front) ++ lines_text back) ++ crlf_bytes
     ≡ print_request (head_with method target http11 (front ++ back))
@@ -255,15 +255,3 @@ module _ (p : PartsValue) (limits : LimitsValue) (facts : Facts) where
   spelling_fault faults.BadLength none = absurd none
   spelling_fault faults.TransferCoding none = absurd none
   spelling_fault faults.OutsideLimits none = absurd none
-
-  module _ (h : RequestHead) (text : List ℕ) (same : h ≡ spelled_head p) (shape : IsRequestHead h)
-      (whole : text ≡ print_request h) where
-    own_shape : IsRequestHead (spelled_head p)
-    own_shape = rw same at shape
-
-    own_text : text ≡ parts_text p
-    own_text = whole ∙ ap print_request same
-
-    -- the fault of the written bytes is that of the parts
-    pub fault_by_text : (fault : HeadFault) → HasFault text limits facts fault → PartsFault p limits facts fault
-    fault_by_text fault has = PartsFault.spelled own_shape (rw own_text at has)

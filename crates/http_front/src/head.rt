@@ -172,7 +172,7 @@ impl<'a> Head<'a> {
 }
 
 /// Whether the target is in origin form, which begins with a slash.
-fn is_origin_form(target: &[u8]) -> bool
+pub(crate) fn is_origin_form(target: &[u8]) -> bool
     ensures { IsTrue result ↔ IsOriginForm target.now }
 {
     matches!(target, [b'/', ..])

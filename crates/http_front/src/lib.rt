@@ -18,6 +18,7 @@ mod parts;
 mod read;
 mod scan;
 mod spelled;
+mod spelled_ask;
 mod turn;
 
 pub use answer::{Case, Reply};

@@ -1,16 +1,20 @@
 //! Requests by their parts, as a proxy has them (RFC 9112, sections 3 and 5; RFC 9113, section 8.3).
-ghost use Rattle.std.specs.Prelude.{◌≡◌, ◌<◌, IfErr, IfOk, IsOk, length};
+ghost use Rattle.std.specs.Prelude.{◌≡◌, ◌<◌, ◌↔◌, IfErr, IfOk, IsOk, IsTrue, IsUtf8, length};
 ghost use Rattle.attributes.specs.Conn.{conn_view};
+ghost use Rattle.attributes.specs.Limits.{InLimits};
+ghost use Rattle.httparse.specs.Grammar.{trim_ows};
+ghost use Rattle.http_front.specs.declared.fault.HeadFault.TheVariants.{OutsideLimits};
 ghost use Rattle.http_front.specs.declared.fault.HeadPart.{HeadPart};
 ghost use Rattle.http_front.specs.Head.{head_room};
 ghost use Rattle.http_front.specs.Parts.{IsMalformedIn, PartsAsk, PartsFault, field_view, is_authority, is_host_of, line_name, parts_text, parts_view, spelled_head};
 
 use crate::closing::trim_ows;
 use crate::fault::HeadFault;
-use crate::read::{HeadAsk, read_head};
 use crate::spelled::Spelled;
 use attributes::{Conn, Limits, Request};
 use std::alloc::{AllocError, Global};
+use std::str;
+use std::sync::Arc;
 
 /// A field: its name in any case, and its value. Its layout is C's, so that a list of fields from C is not copied.
 #[repr(C)]
@@ -58,11 +62,23 @@ pub fn request_of_parts(
         Ok(size) => size,
         Err(fault) => return Ok(Err(fault)),
     };
-    let text = head.text(alloc, size)?;
-    match read_head(alloc, &text, limits, conn)? {
-        Some(HeadAsk::Judge(request)) => Ok(Ok(request)),
-        Some(HeadAsk::Fault(fault)) => Ok(Err(fault)),
-        None => unreachable!(),
+    if let Some(fault) = head.refusal(limits) {
+        return Ok(Err(fault));
+    }
+    let request = head.to_request(alloc, size, Arc::new(alloc, conn)?)?;
+    Ok(within(limits, request))
+}
+
+/// The request, or the fault that it is outside the limits.
+#[inline(always)]
+fn within(limits: &Limits, request: Request) -> Result<Request, HeadFault>
+    ensures found { IfOk result (λ r. (r ≡ request) × InLimits request limits.now) }
+    ensures fault { IfErr result (λ fault. (fault ≡ OutsideLimits) × ¬ (InLimits request limits.now)) }
+{
+    if limits.fits(&request) {
+        Ok(request)
+    } else {
+        Err(HeadFault::OutsideLimits)
     }
 }
 
@@ -71,7 +87,10 @@ impl<'a> Line<'a> {
     pub(crate) fn is_authority(&self) -> bool
         ensures { result ≡ is_authority self.now.name.now }
     {
-        self.name.eq_ignore_ascii_case(b":authority")
+        match self.name {
+            [b':', name @ ..] => name.eq_ignore_ascii_case(b"authority"),
+            _ => false,
+        }
     }
 
     /// Whether this is a Host with this value.
@@ -89,5 +108,19 @@ impl<'a> Line<'a> {
             return b"host";
         }
         self.name
+    }
+
+    /// The value without the spaces and tabs at its ends.
+    pub(crate) fn head_value(&self) -> &[u8]
+        ensures { result.now ≡ trim_ows self.now.value.now }
+    {
+        trim_ows(self.value)
+    }
+
+    /// Whether the value is UTF-8.
+    pub(crate) fn is_text(&self) -> bool
+        ensures { IsTrue result ↔ IsUtf8 (trim_ows self.now.value.now) }
+    {
+        str::from_utf8(self.value).is_ok()
     }
 }

@@ -17,11 +17,11 @@ use std::str;
 /// The head that parts spell. Its lines are those before and those after a Host that repeats `:authority`.
 #[derive(Drop)]
 pub(crate) struct Spelled<'a> {
-    method: &'a [u8],
-    target: &'a [u8],
-    is_http11: bool,
-    front: &'a [Line<'a>],
-    back: &'a [Line<'a>],
+    pub(crate) method: &'a [u8],
+    pub(crate) target: &'a [u8],
+    pub(crate) is_http11: bool,
+    pub(crate) front: &'a [Line<'a>],
+    pub(crate) back: &'a [Line<'a>],
 }
 
 /// The bytes of a head beside its method, its target and its lines: two spaces, the version, and two line ends.
@@ -86,21 +86,6 @@ impl<'a> Spelled<'a> {
         let left = left.checked_sub(self.target.len())?;
         let left = left_after(left, self.front)?;
         left_after(left, self.back)
-    }
-
-    /// The bytes of the head; memory is taken for `size` bytes at once.
-    pub(crate) fn text(&self, alloc: Global, size: usize) -> Result<Vec<u8>, AllocError>
-        ensures { IfOk result (λ text. text.items ≡ print_request (head_in self.now)) }
-    {
-        let mut text = Vec::with_capacity(alloc, size)?;
-        text.extend_from_slice(self.method)?;
-        text.extend_from_slice(b" ")?;
-        text.extend_from_slice(self.target)?;
-        text.extend_from_slice(version_text(self.is_http11))?;
-        push_lines(&mut text, self.front)?;
-        push_lines(&mut text, self.back)?;
-        text.extend_from_slice(b"\r\n")?;
-        Ok(text)
     }
 }
 
@@ -187,35 +172,4 @@ fn left_after_line(room: usize, line: &Line<'_>) -> Option<usize>
     let left = room.checked_sub(FIXED_OF_LINE)?;
     let left = left.checked_sub(line.head_name().len())?;
     left.checked_sub(line.value.len())
-}
-
-/// What a request line has after the target.
-fn version_text(is_http11: bool) -> &'static [u8]
-    ensures { result.now ≡ codes " " ++ print_version (if is_http11 then 1 else 0) ++ crlf_bytes }
-{
-    if is_http11 {
-        return b" HTTP/1.1\r\n";
-    }
-    b" HTTP/1.0\r\n"
-}
-
-/// Appends the lines.
-fn push_lines(text: &mut Vec<u8>, lines: &[Line<'_>]) -> Result<(), AllocError>
-    ensures { OnOk result (text.new.items
-        ≡ text.old.items ++ flat_map print_field (map line_of (map field_view lines.now))) }
-{
-    for line in lines {
-        push_line(text, line)?;
-    }
-    Ok(())
-}
-
-/// Appends the line.
-fn push_line(text: &mut Vec<u8>, line: &Line<'_>) -> Result<(), AllocError>
-    ensures { OnOk result (text.new.items ≡ text.old.items ++ print_field (line_of (field_view line.now))) }
-{
-    text.extend_from_slice(line.head_name())?;
-    text.extend_from_slice(b":")?;
-    text.extend_from_slice(line.value)?;
-    text.extend_from_slice(b"\r\n")
 }
