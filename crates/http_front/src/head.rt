@@ -1,5 +1,5 @@
 //! A request head, borrowed from the bytes that it was read from.
-ghost use Rattle.std.specs.Prelude.{◌≡◌, ◌≤◌, ◌<◌, ◌^◌, ◌↔◌, ◌==◌, All, Any, IfNone, IfOk, IfSome, IsTrue, MatchBool, count_by, length};
+ghost use Rattle.std.specs.Prelude.{◌≡◌, ◌≤◌, ◌<◌, ◌^◌, ◌↔◌, ◌==◌, All, Any, IfNone, IfOk, IfSome, IsSome, IsTrue, MatchBool, count_by, length};
 ghost use Rattle.std.specs.Bool.{OnFalse, OnTrue};
 ghost use Rattle.attributes.specs.Conn.{conn_view};
 ghost use Rattle.attributes.specs.Headers.{lines_view};
@@ -80,6 +80,18 @@ pub(crate) fn parse<'a>(bytes: &'a [u8], fields: &'a mut [HeaderSpan]) -> Parsed
     requires room { length fields.old ≡ count_by (λ b. b == line_feed) bytes.now }
     ensures { IsParsed bytes.now result }
 {
+    match parse_few(bytes, fields) {
+        Some(parsed) => parsed,
+        None => unreachable!(),
+    }
+}
+
+/// The same with any room. `None` if the head has more fields than that.
+pub(crate) fn parse_few<'a>(bytes: &'a [u8], fields: &'a mut [HeaderSpan]) -> Option<Parsed<'a>>
+    requires { length bytes.now ≤ head_room }
+    ensures parsed { IfSome result (IsParsed bytes.now) }
+    ensures room { length fields.old ≡ count_by (λ b. b == line_feed) bytes.now → IsSome result }
+{
     match parse_request(bytes, fields) {
         Ok(Status::Complete(spans)) => {
             let (own, rest) = bytes.split_at(spans.len);
@@ -90,11 +102,11 @@ pub(crate) fn parse<'a>(bytes: &'a [u8], fields: &'a mut [HeaderSpan]) -> Parsed
                 is_http11: spans.version == 1,
                 fields: &fields[..spans.headers],
             };
-            Parsed::Whole(head, rest)
+            Some(Parsed::Whole(head, rest))
         }
-        Ok(Status::Partial) => Parsed::Unfinished,
-        Err(Error::TooManyHeaders) => unreachable!(),
-        Err(error) => Parsed::Hopeless(part_of(error, bytes)),
+        Ok(Status::Partial) => Some(Parsed::Unfinished),
+        Err(Error::TooManyHeaders) => None,
+        Err(error) => Some(Parsed::Hopeless(part_of(error, bytes))),
     }
 }
 

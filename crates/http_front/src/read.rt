@@ -10,7 +10,7 @@ ghost use Rattle.http_front.specs.steps.Parsed.{AreTexts};
 ghost use Rattle.http_front.specs.steps.Asks.{IsAskIn, IsAskOf, IsAskWithin, IsNoHead};
 
 use crate::fault::HeadFault;
-use crate::head::{Head, Parsed, parse};
+use crate::head::{Head, Parsed, parse, parse_few};
 use attributes::{Conn, Limits, Request};
 use httparse::spans::{EMPTY_HEADER_SPAN, HeaderSpan};
 use memchr::memchr_iter;
@@ -20,8 +20,8 @@ use std::sync::Arc;
 /// The greatest length of a head in bytes.
 pub(crate) const HEAD_ROOM: usize = 65_536;
 
-/// The spans of so many lines take no memory of the heap.
-pub(crate) const FEW_LINES: usize = 16;
+/// The spans of so many fields take no memory of the heap. No request within the limits has more.
+pub(crate) const FEW_LINES: usize = 64;
 
 /// The request that a head asks for, or its fault.
 #[derive(Debug, Drop)]
@@ -47,12 +47,12 @@ pub fn read_head(
         IfFault found (HasFault bytes.now limits.now (conn_view conn))) }
     ensures unfinished { IfOk result (λ found. IfNone found (IsUnfinished bytes.now)) }
 {
-    let feeds = line_feeds(&bytes[..bytes.len().min(HEAD_ROOM)]);
-    if feeds <= FEW_LINES {
-        let mut fields = [EMPTY_HEADER_SPAN; FEW_LINES];
-        return ask_with(alloc, bytes, &mut fields[..feeds], limits, conn);
+    let room = &bytes[..bytes.len().min(HEAD_ROOM)];
+    let mut few = [EMPTY_HEADER_SPAN; FEW_LINES];
+    if let Some(parsed) = parse_few(room, &mut few) {
+        return ask_in(alloc, parsed, bytes.len(), limits, conn);
     }
-    let mut fields = vec![in alloc; EMPTY_HEADER_SPAN; feeds]?;
+    let mut fields = vec![in alloc; EMPTY_HEADER_SPAN; line_feeds(room)]?;
     ask_with(alloc, bytes, &mut fields, limits, conn)
 }
 

@@ -9,7 +9,7 @@ ghost use Rattle.http_front.specs.steps.Turns.{IsParsedOf, IsTurn, IsTurnIn, IsT
 
 use crate::ask::Ask;
 use crate::fault::HeadFault;
-use crate::head::{Head, Parsed, parse};
+use crate::head::{Head, Parsed, parse, parse_few};
 use crate::read::{FEW_LINES, HEAD_ROOM, HeadAsk, ask_on, line_feeds, refusal_of};
 use attributes::{Conn, Limits, Request};
 use httparse::spans::EMPTY_HEADER_SPAN;
@@ -92,18 +92,11 @@ fn turn_of_first(
     ensures { IfOk result (IsTurnOfFirst limits.now (conn_view conn.now.value) count bytes.now) }
 {
     let first = &bytes[..count];
-    let feeds = line_feeds(first);
-    if feeds <= FEW_LINES {
-        let mut fields = [EMPTY_HEADER_SPAN; FEW_LINES];
-        return turn_of_parsed(
-            alloc,
-            limits,
-            conn,
-            parse(first, &mut fields[..feeds]),
-            count,
-        );
+    let mut few = [EMPTY_HEADER_SPAN; FEW_LINES];
+    if let Some(parsed) = parse_few(first, &mut few) {
+        return turn_of_parsed(alloc, limits, conn, parsed, count);
     }
-    let mut fields = vec![in alloc; EMPTY_HEADER_SPAN; feeds]?;
+    let mut fields = vec![in alloc; EMPTY_HEADER_SPAN; line_feeds(first)]?;
     turn_of_parsed(alloc, limits, conn, parse(first, &mut fields), count)
 }
 
