@@ -1,5 +1,5 @@
 -- The laws of formulas.
-use Rattle.std.proofs.Common.{◌≡◌, nat_eq, true, false, ℕ, ◌+◌, ◌*◌, ◌-◌, ◌<◌, ◌^◌, List, [], ◌∷◌, ◌++◌, length, get_or, max, refl, sym, ap, ◌∙◌, inl, inr, rules, arith}
+use Rattle.std.proofs.Common.{◌≡◌, nat_eq, true, false, ℕ, ◌+◌, ◌*◌, ◌-◌, ◌<◌, ◌≤◌, ◌^◌, List, [], ◌∷◌, ◌++◌, length, get_or, max, refl, sym, ap, ◌∙◌, inl, inr, rules, arith}
 use Rattle.std.proofs.Math.ListN.{get_or-append}
 use Rattle.std.proofs.Math.Seq.{get_or-append_seam}
 use Rattle.std.proofs.lemmas.Bool.{cases_lt}
@@ -9,14 +9,15 @@ use Rattle.std.specs.declared.rc.Rc.{Rc}
 use Rattle.std.specs.declared.alloc.Global.{Global}
 use Rattle.cel_types.specs.TypedMeaning.{local_at}
 use Rattle.cel_costs.specs.Costs.{known}
-use Rattle.cel_costs.specs.Sizes.{Size}
-use Rattle.cost_bound.specs.steps.Formulas.{FormulaTree, fixed, local, either, both, Gets, HasNumbers, HasShape, SameNumbers, ShapeTree, formula_view, given, kind_of, length_at, seen_all, seen_of}
+use Rattle.cel_costs.specs.Sizes.{Size, most_of}
+use Rattle.cost_bound.specs.steps.Formulas.{AreKinds, FormulaTree, fixed, local, either, both, Gets, HasNumbers, HasShape, SameNumbers, ShapeTree, formula_view, given, greatest_at, kind_of, length_at, maxima_view, seen_all, seen_of}
 use Rattle.cost_bound.specs.steps.Numbers.{capped}
-use Rattle.cost_bound.specs.declared.numbers.Formula.{Formula, Fixed, Local, Either, Both, the_lemmas}
+use Rattle.cost_bound.specs.declared.maxima.Maxima.{Maxima}
+use Rattle.cost_bound.specs.declared.numbers.Formula.{Formula, Fixed, Local, Maxima as FormulaMaxima, Either, Both, the_lemmas}
 use Rattle.cost_bound.specs.declared.numbers.Gives.{Gives}
-use Rattle.cost_bound.specs.declared.numbers.Kind.{Kind}
+use Rattle.cost_bound.specs.declared.seen.Kind.{Kind}
 use Rattle.cost_bound.specs.declared.numbers.Numbers.{Numbers}
-use Rattle.cost_bound.specs.declared.numbers.Seen.{Seen}
+use Rattle.cost_bound.specs.declared.seen.Seen.{Seen}
 use Rattle.cost_bound.proofs.Capped.{capped_same}
 
 pub view_fixed : (c n : ℕ) → formula_view (Fixed c n) ≡ fixed c n
@@ -24,6 +25,9 @@ view_fixed c n = search (rules, the_lemmas)
 
 pub view_local : (n : ℕ) (k : Kind) → formula_view (Local n k) ≡ local n k
 view_local n k = search (rules, the_lemmas)
+
+pub view_maxima : (m : Maxima) → formula_view (FormulaMaxima m) ≡ maxima_view m
+view_maxima m = search (rules, the_lemmas)
 
 pub view_either : (p q : Rc Formula Global) → formula_view (Either p q)
     ≡ either (formula_view p.value) (formula_view q.value)
@@ -61,19 +65,41 @@ seen_at (s ∷ ss) n d within =
           ∙ get_or-append_seam (seen_all ss) (seen_of s) [] d)
     ]
 
+-- a local that is not in scope
+pub seen_none : (ss : List Size) (n : ℕ) → length (seen_all ss) ≤ n → most_of (known (local_at n ss)) ≡ 0
+seen_none [] n out = refl
+seen_none (s ∷ ss) n out =
+    let many = seen_many ss in
+    let all = seen_many (s ∷ ss) in
+    let e : nat_eq n (length ss) ≡ false =
+    (let differ : n ≡ length ss → ⊥ = λ k. omega (arith, k) in grind (arith, nat_tests)) in
+    rw e (seen_none ss n (omega arith))
+
+pub seen_length : (ss : List Size) (n : ℕ) (x : Seen) → x ≡ seen_of (known (local_at n ss)) → x.length < 2 ^ 64
+    → x.length ≡ capped (most_of (known (local_at n ss)))
+seen_length ss n x is fits =
+    let long : x.length ≡ most_of (known (local_at n ss)) = ap (λ y. y.length) is in omega (arith, long, fits)
+
 -- the numbers of a local of the named kind
-pub local_has : (ss : List Size) (n : ℕ) (k : Kind) (x : Seen) (r : Numbers) → x ≡ seen_of (known (local_at n ss))
-    → x.kind ≡ k → r.cost ≡ 1 → r.length ≡ capped x.length → HasNumbers (local n k) ss r
-local_has ss n k x r is kind one same = λ low.
-    let named : kind_of (known (local_at n ss)) ≡ k = sym (ap (λ y. y.kind) is) ∙ kind in
-    let whole = ap (λ y. y.length) is in
-    (named, one, same ∙ ap capped whole)
+pub local_has : (ss : List Size) (n : ℕ) (k : Kind) (r : Numbers) → kind_of (known (local_at n ss)) ≡ k → r.cost ≡ 1
+    → r.length ≡ capped (most_of (known (local_at n ss))) → HasNumbers (local n k) ss r
+local_has ss n k r named one long = λ low. (named, one, long)
 
 -- ---- numbers
 
 -- numbers that are not known
 pub none_has : (p : FormulaTree) (ss : List Size) (r : Numbers) → r.cost ≡ 2 ^ 64 - 1 → HasNumbers p ss r
 none_has p ss r is = λ low. absurd (omega arith)
+
+below_cap : (n m : ℕ) → n ≡ capped m → n < 2 ^ 64 - 1 → n ≡ m
+below_cap n m is low = omega arith
+
+-- the numbers of maxima whose locals' sizes are of the kinds named
+pub maxima_has : (m : Maxima) (ss : List Size) (r : Numbers) → AreKinds m.named.items ss
+    → r.cost ≡ capped (greatest_at m.costs.items ss) → r.length ≡ capped (greatest_at m.lengths.items ss)
+    → HasNumbers (maxima_view m) ss r
+maxima_has m ss r named cost long = λ low.
+    (named, below_cap r.cost (greatest_at m.costs.items ss) cost low, long)
 
 pub fixed_has : (c n : ℕ) (ss : List Size) (r : Numbers) → r.cost ≡ c → r.length ≡ n → n < 2 ^ 64
     → HasNumbers (fixed c n) ss r
@@ -131,13 +157,29 @@ module _ (p q : FormulaTree) (ss : List Size) (one other r : Numbers) (c f : ℕ
 pub same_as : (r p : FormulaTree) → r ≡ p → SameNumbers r p
 same_as r p e = rw e (λ ss h. (h, refl, refl))
 
-below_cap : (n m : ℕ) → n ≡ capped m → n < 2 ^ 64 - 1 → n ≡ m
-below_cap n m is low = omega arith
-
 pub fixed_same : (r p : FormulaTree) (n : Numbers) → r ≡ fixed n.cost n.length → n.cost < 2 ^ 64 - 1
     → n.length < 2 ^ 64 - 1 → ((ss : List Size) → HasNumbers p ss n) → SameNumbers r p
 fixed_same r p n is low short h = rw is (λ ss kinds.
     let k = h ss low in (k.0, k.1, below_cap n.length (length_at p ss) k.2 short))
+
+pub same_more : (r p q : FormulaTree) → SameNumbers r p → SameNumbers p q → SameNumbers r q
+same_more r p q first second = λ ss h.
+    let a = first ss h in
+    let b = second ss a.0 in (b.0, a.1 ∙ b.1, a.2 ∙ b.2)
+
+pub either_same : (r p q u v : FormulaTree) → SameNumbers p u → SameNumbers q v → SameNumbers r (either p q)
+    → SameNumbers r (either u v)
+either_same r p q u v first second all = λ ss h.
+    let k = all ss h in
+    let a = first ss k.0.0 in
+    let b = second ss k.0.1 in ((a.0, b.0), rw (← a.1, ← b.1) k.1, rw (← a.2, ← b.2) k.2)
+
+pub both_same : (r p q u v : FormulaTree) (c f : ℕ) (g : Gives) → SameNumbers p u → SameNumbers q v
+    → SameNumbers r (both p q c f g) → SameNumbers r (both u v c f g)
+both_same r p q u v c f g first second all = λ ss h.
+    let k = all ss h in
+    let a = first ss k.0.0 in
+    let b = second ss k.0.1 in ((a.0, b.0), rw (← a.1, ← b.1, ← a.2, ← b.2) k.1, rw (← a.2, ← b.2) k.2)
 
 pub gets_same : (r p : FormulaTree) (sh : ShapeTree) (ss : List Size) (s : Size) (c : ℕ) → SameNumbers r p
     → Gets p sh ss s c → Gets r sh ss s c

@@ -16,5 +16,6 @@ pub mod Remembering
 pub mod Forms
 pub mod Shapes
 pub mod Formulas
+pub mod Terms
 pub mod FormRules
 pub mod Surveys

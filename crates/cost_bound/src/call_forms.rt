@@ -14,8 +14,9 @@ ghost use Rattle.cost_bound.specs.steps.Formulas.{fixed, formula_view};
 ghost use Rattle.cost_bound.specs.steps.Memos.{Forms, MemoHoldsEach, memo_view};
 
 use crate::form::{Form, choice_form, flat_form, text_form};
+use crate::formula::both;
 use crate::memo::{Memo, form_at};
-use crate::numbers::{Formula, Gives, both};
+use crate::numbers::{Formula, Gives};
 use crate::shape::{Shape, item_shape};
 use cel_ops::{Conversion, Operation};
 use cel_overload::Overload;

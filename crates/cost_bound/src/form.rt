@@ -14,8 +14,10 @@ ghost use Rattle.cost_bound.specs.steps.Memos.{Forms};
 ghost use Rattle.cost_bound.specs.steps.ScopeView.{IsCounted, locals_view, scope_view};
 ghost use Rattle.cost_bound.specs.steps.SizeView.{size_view};
 
-use crate::numbers::{Formula, Gives, Kind, both, either, numbers_in};
+use crate::formula::{both, either};
+use crate::numbers::{Formula, Gives, numbers_in};
 use crate::scope::Scope;
+use crate::seen::Kind;
 use crate::shape::{Shape, join_shapes, size_by};
 use crate::size::ValueSize;
 use cel_value::CelType;
@@ -64,6 +66,7 @@ pub(crate) fn is_leaf(form: &Form) -> bool {
     match &*form.formula {
         Formula::Fixed { cost, .. } => *cost == 1,
         Formula::Local { .. } => true,
+        Formula::Maxima(_) => false,
         Formula::Either(_, _) => false,
         Formula::Both { .. } => false,
     }

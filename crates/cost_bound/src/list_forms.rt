@@ -10,8 +10,9 @@ ghost use Rattle.cost_bound.specs.steps.Formulas.{AreItems, formula_view, shape_
 ghost use Rattle.cost_bound.specs.steps.Memos.{Forms, MemoHoldsEach, memo_view};
 
 use crate::form::Form;
+use crate::formula::both;
 use crate::memo::{Memo, form_at};
-use crate::numbers::{Formula, Gives, both};
+use crate::numbers::{Formula, Gives};
 use crate::shape::{Shape, join_shapes};
 use cel_types::TypedExpr;
 use std::alloc::{AllocError, Global};

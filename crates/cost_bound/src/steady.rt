@@ -8,6 +8,8 @@ ghost use Rattle.cel_value.specs.Types.{ValueType};
 ghost use Rattle.cost_bound.specs.steps.Memos.{EachNamesOnly, IsSettled, NamesOnly};
 ghost use Rattle.cost_bound.specs.steps.Numbers.{capped};
 
+use cel_ops::Operation;
+use cel_overload::Overload;
 use cel_types::{TypedExpr, TypedLoop, Variables};
 
 /// A loop around expressions: the number of locals outside of it, and its variables.
@@ -87,10 +89,37 @@ fn is_variable(after: u64, variables: Variables) -> bool
     }
 }
 
-/// Whether a range has an item for all sizes of the locals.
+/// Whether a range has an item for all sizes of the locals. May say no.
+#[cycle(items)]
 pub(crate) fn has_items(range: &TypedExpr<'_>) -> bool {
-    let TypedExpr::List { elements, .. } = range else {
-        return false;
-    };
-    !elements.is_empty()
+    match range {
+        TypedExpr::List { elements, .. } => !elements.is_empty(),
+        TypedExpr::Map { pairs, .. } => !pairs.is_empty(),
+        TypedExpr::Call {
+            overload,
+            operands,
+            ..
+        } => gives_items(*overload, operands),
+        TypedExpr::Constant { .. } => false,
+        TypedExpr::Local { .. } => false,
+        TypedExpr::Attribute { .. } => false,
+        TypedExpr::Field { .. } => false,
+        TypedExpr::HasField { .. } => false,
+        TypedExpr::Loop { .. } => false,
+    }
+}
+
+// Whether two lists that are joined, or both branches of a conditional, have an item.
+#[cycle(items)]
+fn gives_items(overload: Overload, operands: &[TypedExpr<'_>]) -> bool {
+    match operands {
+        [first, second] => {
+            overload == Overload::Operate(Operation::Concat)
+                && (has_items(first) || has_items(second))
+        }
+        [_, first, second] => {
+            overload == Overload::Conditional && has_items(first) && has_items(second)
+        }
+        _ => false,
+    }
 }

@@ -10,25 +10,34 @@ use Rattle.cost_bound.specs.declared.numbers.Formula.{Formula, fold-Formula}
 use Rattle.cost_bound.specs.declared.numbers.Formula.TheOpen.{Formula-F}
 use Rattle.cost_bound.specs.declared.numbers.Gives.{Gives}
 use Rattle.cost_bound.specs.declared.numbers.Gives.TheVariants as gives
-use Rattle.cost_bound.specs.declared.numbers.Kind.{Kind}
-use Rattle.cost_bound.specs.declared.numbers.Kind.TheVariants as kinds
+use Rattle.cost_bound.specs.declared.seen.Kind.{Kind}
+use Rattle.cost_bound.specs.declared.seen.Kind.TheVariants as kinds
 use Rattle.cost_bound.specs.declared.numbers.Numbers.{Numbers}
-use Rattle.cost_bound.specs.declared.numbers.Seen.{Seen}
+use Rattle.cost_bound.specs.declared.seen.Seen.{Seen}
+use Rattle.cost_bound.specs.declared.maxima.Maxima.{Maxima}
+use Rattle.cost_bound.specs.declared.maxima.Named.{Named}
+use Rattle.cost_bound.specs.declared.term.Term.{Term}
 use Rattle.cost_bound.specs.declared.shape.Shape.{Shape, fold-Shape}
 use Rattle.cost_bound.specs.declared.shape.Shape.TheOpen.{Shape-F}
 
--- a formula of a cost and a length: two numbers; those of a local; the greater ones of two expressions; or the
--- sum of two costs, a charge, and so many times both lengths
+-- a formula of a cost and a length: two numbers; those of a local; the greatest of some terms each; the greater ones
+-- of two expressions; or the sum of two costs, a charge, and so many times both lengths
 pub data FormulaTree : Type 0 where
   fixed : (cost length : ℕ) → FormulaTree
   local : (outside : ℕ) → Kind → FormulaTree
+  maxima : List Named → (costs lengths : List Term) → FormulaTree
   either : FormulaTree → FormulaTree → FormulaTree
   both : (first second : FormulaTree) → (charge factor : ℕ) → Gives → FormulaTree
+
+-- the formula that `Maxima` means
+abbrev pub maxima_view : Maxima → FormulaTree
+maxima_view m = maxima m.named.items m.costs.items m.lengths.items
 
 -- one level of a formula, whose inner formulas are already translated
 abbrev pub formula_level : Formula-F FormulaTree → FormulaTree
 formula_level (Formula-F.Fixed c n) = fixed c n
 formula_level (Formula-F.Local n k) = local n k
+formula_level (Formula-F.Maxima m) = maxima_view m
 formula_level (Formula-F.Either p q) = either p.value q.value
 formula_level (Formula-F.Both p q c f g) = both p.value q.value c f g
 
@@ -59,10 +68,25 @@ given gives.First m n = m
 given gives.Sum m n = m + n
 given gives.Greater m n = max m n
 
+-- the lengths of these locals, added
+abbrev pub lengths_at : List ℕ → List Size → ℕ
+lengths_at [] ss = 0
+lengths_at (n ∷ ns) ss = most_of (known (local_at n ss)) + lengths_at ns ss
+
+-- a charge, and the lengths of some locals
+abbrev pub term_at : Term → List Size → ℕ
+term_at t ss = t.charge + lengths_at t.locals.items ss
+
+-- the greatest of some terms; 0 without any
+abbrev pub greatest_at : List Term → List Size → ℕ
+greatest_at [] ss = 0
+greatest_at (t ∷ ts) ss = max (term_at t ss) (greatest_at ts ss)
+
 -- the length that a formula gives
 abbrev pub length_at : FormulaTree → List Size → ℕ
 length_at (fixed c n) ss = n
 length_at (local n k) ss = most_of (known (local_at n ss))
+length_at (maxima ks cs ls) ss = greatest_at ls ss
 length_at (either p q) ss = max (length_at p ss) (length_at q ss)
 length_at (both p q c f g) ss = given g (length_at p ss) (length_at q ss)
 
@@ -70,13 +94,20 @@ length_at (both p q c f g) ss = given g (length_at p ss) (length_at q ss)
 abbrev pub cost_at : FormulaTree → List Size → ℕ
 cost_at (fixed c n) ss = c
 cost_at (local n k) ss = 1
+cost_at (maxima ks cs ls) ss = greatest_at cs ss
 cost_at (either p q) ss = max (cost_at p ss) (cost_at q ss)
 cost_at (both p q c f g) ss = cost_at p ss + cost_at q ss + (c + f * (length_at p ss + length_at q ss))
 
--- the locals' sizes are of the kinds that the formula names
+-- the locals' sizes are of the kinds named
+abbrev pub AreKinds : List Named → List Size → Type 0
+AreKinds [] ss = Unit {0}
+AreKinds (k ∷ ks) ss = (kind_of (known (local_at k.local ss)) ≡ k.kind) × AreKinds ks ss
+
+-- the same of those that the formula names
 abbrev pub HasKinds : FormulaTree → List Size → Type 0
 HasKinds (fixed c n) ss = Unit {0}
 HasKinds (local n k) ss = kind_of (known (local_at n ss)) ≡ k
+HasKinds (maxima ks cs ls) ss = AreKinds ks ss
 HasKinds (either p q) ss = HasKinds p ss × HasKinds q ss
 HasKinds (both p q c f g) ss = HasKinds p ss × HasKinds q ss
 

@@ -1,7 +1,12 @@
 use Rattle.std.proofs.Common.{ap, ◌∙◌}
 use Rattle.cost_bound.specs.steps.Formulas.{formula_view}
-use Rattle.cost_bound.proofs.Formulas.{view_both, view_either}
+use Rattle.cost_bound.proofs.Formulas.{view_both, view_either, view_maxima}
 use Rattle.cost_bound.proofs.numbers.+evaluate.Goals as goal
+
+pub returns-in-Maxima : goal.returns-in-Maxima
+returns-in-Maxima t c =
+    let seen = ap formula_view c.in-Maxima.is ∙ view_maxima c.in-Maxima.maxima in
+    rw seen c.maxima_numbers.ensures
 
 pub returns-in-Either : goal.returns-in-Either
 returns-in-Either t c =

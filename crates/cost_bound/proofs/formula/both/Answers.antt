@@ -1,5 +1,5 @@
 use Rattle.cost_bound.specs.steps.Formulas.{both, formula_view}
-use Rattle.cost_bound.proofs.numbers.both.Goals as goal
+use Rattle.cost_bound.proofs.formula.both.Goals as goal
 
 pub returns-in-Some : goal.returns-in-Some
 returns-in-Some c =

@@ -1,5 +1,5 @@
 use Rattle.cost_bound.specs.steps.Formulas.{either, formula_view}
-use Rattle.cost_bound.proofs.numbers.either.Goals as goal
+use Rattle.cost_bound.proofs.formula.either.Goals as goal
 
 pub returns-in-Some : goal.returns-in-Some
 returns-in-Some c =

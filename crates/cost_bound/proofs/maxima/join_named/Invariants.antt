@@ -1,0 +1,12 @@
+use Rattle.std.proofs.Common.{◌≡◌, ℕ, ◌+◌, ◌<◌, ◌≤◌, List, [], length, drop, max}
+use Rattle.cel_costs.specs.Sizes.{Size}
+use Rattle.cost_bound.specs.steps.Numbers.{capped}
+use Rattle.cost_bound.specs.steps.Formulas.{AreKinds}
+use Rattle.cost_bound.proofs.maxima.join_named.Given as goal
+
+abbrev pub invariant-loop-at : goal.invariant-loop-at
+invariant-loop-at l = (l.at ≤ length l.others) × ((sizes : List Size) → AreKinds l.all.items sizes
+    → AreKinds l.named sizes × AreKinds (drop l.at l.others) sizes)
+
+abbrev pub decreases-loop-at : goal.decreases-loop-at
+decreases-loop-at l = l.at

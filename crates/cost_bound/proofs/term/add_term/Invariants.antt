@@ -1,0 +1,14 @@
+use Rattle.std.proofs.Common.{◌≡◌, ℕ, ◌+◌, ◌<◌, ◌≤◌, List, [], length, drop, max}
+use Rattle.cel_costs.specs.Sizes.{Size}
+use Rattle.cost_bound.specs.steps.Numbers.{capped}
+use Rattle.cost_bound.specs.steps.Formulas.{greatest_at, term_at}
+use Rattle.cost_bound.proofs.term.add_term.Given as goal
+
+abbrev pub invariant-loop-at : goal.invariant-loop-at
+invariant-loop-at l = (l.at ≤ length l.terms)
+    × (l.at < length l.terms → (sizes : List Size)
+    → greatest_at l.all.items sizes ≡ greatest_at (drop l.at l.terms) sizes + term_at l.more sizes)
+    × (length l.terms ≤ l.at → l.all.items ≡ [])
+
+abbrev pub decreases-loop-at : goal.decreases-loop-at
+decreases-loop-at l = l.at

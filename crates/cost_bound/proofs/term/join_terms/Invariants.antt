@@ -1,0 +1,12 @@
+use Rattle.std.proofs.Common.{◌≡◌, ℕ, ◌+◌, ◌<◌, ◌≤◌, List, [], length, drop, max}
+use Rattle.cel_costs.specs.Sizes.{Size}
+use Rattle.cost_bound.specs.steps.Numbers.{capped}
+use Rattle.cost_bound.specs.steps.Formulas.{greatest_at}
+use Rattle.cost_bound.proofs.term.join_terms.Given as goal
+
+abbrev pub invariant-loop-at : goal.invariant-loop-at
+invariant-loop-at l = (l.at ≤ length l.others) × ((sizes : List Size)
+    → greatest_at l.all.items sizes ≡ max (greatest_at l.terms sizes) (greatest_at (drop l.at l.others) sizes))
+
+abbrev pub decreases-loop-at : goal.decreases-loop-at
+decreases-loop-at l = l.at

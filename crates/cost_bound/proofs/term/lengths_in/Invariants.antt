@@ -1,0 +1,12 @@
+use Rattle.std.proofs.Common.{◌≡◌, ℕ, ◌+◌, ◌<◌, ◌≤◌, List, [], length, drop, max}
+use Rattle.cel_costs.specs.Sizes.{Size}
+use Rattle.cost_bound.specs.steps.Numbers.{capped}
+use Rattle.cost_bound.specs.steps.Formulas.{lengths_at, seen_all}
+use Rattle.cost_bound.proofs.term.lengths_in.Given as goal
+
+abbrev pub invariant-loop-at : goal.invariant-loop-at
+invariant-loop-at l = (l.at ≤ length l.names) × ((sizes : List Size) → l.locals ≡ seen_all sizes
+    → l.lengths ≡ capped (lengths_at (drop l.at l.names) sizes))
+
+abbrev pub decreases-loop-at : goal.decreases-loop-at
+decreases-loop-at l = l.at
