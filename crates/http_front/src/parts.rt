@@ -101,6 +101,7 @@ impl<'a> Line<'a> {
     }
 
     /// The name under which a head has the field.
+    #[inline(always)]
     pub(crate) fn head_name(&self) -> &[u8]
         ensures { result.now ≡ line_name self.now.name.now }
     {
@@ -121,6 +122,9 @@ impl<'a> Line<'a> {
     pub(crate) fn is_text(&self) -> bool
         ensures { IsTrue result ↔ IsUtf8 (trim_ows self.now.value.now) }
     {
+        if self.value.is_ascii() {
+            return true;
+        }
         str::from_utf8(self.value).is_ok()
     }
 }
