@@ -92,14 +92,17 @@ def lies(case):
     server, plane, stream = case.ready()
     peer = server.connect()
     settings = bytes.fromhex("000000040000000000")
+    compressed = "a bad frame: its message is compressed"
     for what, content, reason in (
-            ("a compressed frame", "0100000000", "a bad frame"), ("a frame too long", "0000100001", "a bad frame"),
-            ("no message", frame(b"\xff").hex(), "a bad frame"), ("a request line", b"HTTP/1.1 400 Bad".hex(), "a bad frame"),
+            ("a compressed frame", "0100000000", compressed),
+            ("a frame too long", "0000100001", "a bad frame: its message is longer than 1 MiB"),
+            ("no message", frame(b"\xff").hex(), "a bad message: the bytes are not whole fields of Protocol Buffers"),
+            ("a request line", b"HTTP/1.1 400 Bad".hex(), compressed),
             ("settings", settings.hex(), "the other end speaks HTTP/2"),
             ("six bytes of settings", "000006040000000000000300000064", "the other end speaks HTTP/2"),
             ("an alert", "15030100020246", "the other end speaks TLS"),
             ("a handshake", "160303007a0200", "the other end speaks TLS"),
-            ("a good frame and a bad one", response(b"1", b"x", resource(b"f", ANY_ANY)).hex() + "01", "a bad frame")):
+            ("a good frame and a bad one", response(b"1", b"x", resource(b"f", ANY_ANY)).hex() + "01", compressed)):
         before = len(server.losses())
         stream.peer.sendall(bytes.fromhex(content))
         if "good" in what:

@@ -1,6 +1,6 @@
 -- The answers to messages, one after the other.
 use Rattle.std.proofs.Common.{◌≡◌, ◌≢◌, ◌⊎◌, inl, inr, ℕ, Bool, true, false, List, [], ◌∷◌, ◌++◌, not, true≢false, Option, Some, None, length, suc, refl, ap, sym, ◌∙◌, append_assoc, append-nil, option_map}
-use Rattle.std.specs.Prelude.{Result, Ok, Err, IfErr, IfOk, OnOk, MatchBool}
+use Rattle.std.specs.Prelude.{Result, Ok, Err, IfErr, IfOk, OnOk, MatchBool, MatchOption}
 use Rattle.std.specs.List.{AllZip}
 use Rattle.std.proofs.lemmas.List.{length-map}
 use Rattle.proto_wire.specs.Refusal.{MemoryOr}
@@ -14,6 +14,7 @@ use Rattle.ads.specs.Config.{ConfigValue, FilterValue}
 use Rattle.ads.specs.Answer.{Accepted, Answers, IsAdmitting, nack, no_memory, Refuses, nack_of, request_of, replaced}
 use Rattle.ads.specs.Judgements.{AreJudged}
 use Rattle.ads.specs.declared.accepted.Draft.{Draft}
+use Rattle.ads.specs.declared.ended.Ended.{Ended}
 use Rattle.ads.specs.declared.judgement.Judgement.{Judgement}
 use Rattle.ads.specs.Views.{policies_view}
 use Rattle.ads.proofs.PlaceLemmas.{replaced_nothing}
@@ -64,18 +65,18 @@ abbrev pub GoesOn : ConfigValue → Accepted → List (List ℕ) → List ℕ �
     → List ℕ → List Judgement → Type 0
 GoesOn c start all before told now rest after later =
     (done : List ℕ) × (judged : List Judgement) × (after ≡ before ++ done) × (later ≡ told ++ judged)
-    × ((more : List Judgement) (others : List ℕ) (new : Accepted) (ends : Bool)
-    → AreJudged c now rest more others new ends
-    → AreJudged c start all (judged ++ more) (done ++ others) new ends)
+    × ((more : List Judgement) (others : List ℕ) (new : Accepted) (reason : Option Ended)
+    → AreJudged c now rest more others new reason
+    → AreJudged c start all (judged ++ more) (done ++ others) new reason)
 
 module _ (c : ConfigValue) (start : Accepted) (all : List (List ℕ)) (before : List ℕ) (told : List Judgement) where
   pub goes_on_from : GoesOn c start all before told start all before told
-  goes_on_from = ([], [], sym (append-nil before), sym (append-nil told), λ more others new ends is. is)
+  goes_on_from = ([], [], sym (append-nil before), sym (append-nil told), λ more others new reason is. is)
 
   -- the judgements and the answers of all messages
-  abbrev pub AllJudged : Accepted → Draft → Bool → Type 0
-  AllJudged new draft ends = (judgements : List Judgement) × (replies : List ℕ)
-      × AreJudged c start all judgements replies new ends × (draft.judgements.items ≡ told ++ judgements)
+  abbrev pub AllJudged : Accepted → Draft → Option Ended → Type 0
+  AllJudged new draft reason = (judgements : List Judgement) × (replies : List ℕ)
+      × AreJudged c start all judgements replies new reason × (draft.judgements.items ≡ told ++ judgements)
       × (draft.replies.items ≡ before ++ replies)
 
   module _ (old : List (Option AdmittedValue)) (now : Draft) where
@@ -94,9 +95,9 @@ module _ (c : ConfigValue) (start : Accepted) (all : List (List ℕ)) (before : 
           judged ++ j ∷ [],
           added ∙ ap (λ xs. xs ++ frame_of bytes) so_far ∙ append_assoc before done (frame_of bytes),
           pushed ∙ ap (λ xs. xs ++ j ∷ []) judged_so ∙ append_assoc told judged (j ∷ []),
-          λ more others new ends later.
+          λ more others new reason later.
               rw (append_assoc done (frame_of bytes) others, append_assoc judged (j ∷ []) more)
-              (whole (j ∷ more) (frame_of bytes ++ others) new ends
+              (whole (j ∷ more) (frame_of bytes ++ others) new reason
               (inr (
                 response,
                 j,
@@ -113,26 +114,28 @@ module _ (c : ConfigValue) (start : Accepted) (all : List (List ℕ)) (before : 
         )
 
     -- no message is left
-    pub goes_on_end : SoFar [] now → AllJudged (draft_view old now) now false
+    pub goes_on_end : SoFar [] now → AllJudged (draft_view old now) now None
     goes_on_end (done, judged, so_far, judged_so, whole) = (
       judged,
       done,
-      rw (append-nil done, append-nil judged) at (whole [] [] (draft_view old now) false (refl, refl, refl, refl)),
+      rw (append-nil done, append-nil judged) at (whole [] [] (draft_view old now) None (refl, refl, refl, refl)),
       judged_so,
       so_far,
     )
 
     -- a message that is no response ends the stream
-    pub goes_on_stop : (next : Draft) (message : List ℕ) (rest : List (List ℕ)) → SoFar (message ∷ rest) now
-        → IsNoResponse old message now next → AllJudged (draft_view old next) next true
-    goes_on_stop next message rest (done, judged, so_far, judged_so, whole) (e, fault, same, judged_same, stays) = (
-      judged,
-      done,
-      rw (append-nil done, append-nil judged) at
-          (whole [] [] (draft_view old next) true (inl (refl, ((e, fault), refl, refl, stays, refl)))),
-      judged_same ∙ judged_so,
-      same ∙ so_far,
-    )
+    pub goes_on_stop : (next : Draft) (message : List ℕ) (rest : List (List ℕ)) (reason : Ended)
+        → SoFar (message ∷ rest) now → IsNoResponse old message now next reason
+        → AllJudged (draft_view old next) next (Some reason)
+    goes_on_stop next message rest reason (done, judged, so_far, judged_so, whole)
+        (e, fault, is, same, judged_same, stays) = (
+          judged,
+          done,
+          rw (append-nil done, append-nil judged) at
+              (whole [] [] (draft_view old next) (Some reason) (inl ((e, fault, ap Some is), refl, refl, stays))),
+          judged_same ∙ judged_so,
+          same ∙ so_far,
+        )
 
 -- a request with an error
 pub with_error : (c : ConfigValue) (version nonce : List ℕ) (m : RequestMessage) (status told : StatusMessage)
@@ -166,9 +169,19 @@ told_yes false P Q is q = absurd (true≢false (sym is))
 
 -- answers behind nothing
 pub from_judged : (c : ConfigValue) (a b d : Accepted) (ms : List (List ℕ)) (before : List ℕ) (told : List Judgement)
-    (draft : Draft) (ends : Bool) → b ≡ a → before ≡ [] → told ≡ [] → AllJudged c b ms before told d draft ends
-    → AreJudged c a ms draft.judgements.items draft.replies.items d ends
-from_judged c a b d ms before told draft ends same none empty (judgements, replies, judged, judged_so, whole) =
+    (draft : Draft) (reason : Option Ended) → b ≡ a → before ≡ [] → told ≡ []
+    → AllJudged c b ms before told d draft reason
+    → AreJudged c a ms draft.judgements.items draft.replies.items d reason
+from_judged c a b d ms before told draft reason same none empty (judgements, replies, judged, judged_so, whole) =
     let all : draft.replies.items ≡ replies = whole ∙ ap (λ xs. xs ++ replies) none in
     let each : draft.judgements.items ≡ judgements = judged_so ∙ ap (λ xs. xs ++ judgements) empty in
     rw (all, each, ← same) judged
+
+-- what was told of a fault, if there is one
+pub told_none : {A : Type 0} (found : Option A) (P : Type 0) (Q : A → Type 0) → found ≡ None → MatchOption found P Q → P
+told_none None P Q is p = p
+told_none (Some x) P Q is q = absurd cc
+
+pub told_some : {A : Type 0} (found : Option A) (x : A) (P : Type 0) (Q : A → Type 0) → found ≡ Some x
+    → MatchOption found P Q → Q x
+told_some found x P Q is q = rw is at q

@@ -13,6 +13,7 @@ use Rattle.ads.specs.Client.{AreAnswered, accepted_by}
 use Rattle.ads.specs.Config.{ConfigValue}
 use Rattle.ads.specs.Judgements.{AreJudged, HasOutcome, IsJudgedAs, IsRefusedAs}
 use Rattle.ads.specs.Views.{policies_view}
+use Rattle.ads.specs.declared.ended.Ended.{Ended}
 use Rattle.ads.specs.declared.judgement.Judgement.{Judgement}
 use Rattle.ads.specs.declared.judgement.Outcome.{Outcome}
 use Rattle.ads.specs.declared.judgement.Outcome.TheVariants as outcomes
@@ -41,13 +42,15 @@ answers_of c response old new (outcomes.Refused r) reply (why, stays, same) =
 
 -- the messages are answered as they are judged
 pub judged_answered : (c : ConfigValue) (old : Accepted) (ms : List (List ℕ)) (js : List Judgement) (replies : List ℕ)
-    (new : Accepted) (ends : Bool) → AreJudged c old ms js replies new ends
-    → (versions : List (List ℕ)) × AreAnswered c old ms replies versions new ends
-judged_answered c old [] js replies new ends (none, empty, same, goes) = ([], (empty, refl, same, goes))
-judged_answered c old (m ∷ ms) js replies new ends (inl (none, stops)) = ([], inl stops)
-judged_answered c old (m ∷ ms) js replies new ends
+    (new : Accepted) (reason : Option Ended) → AreJudged c old ms js replies new reason
+    → (versions : List (List ℕ)) × AreAnswered c old ms replies versions new (is_some reason)
+judged_answered c old [] js replies new reason (none, empty, same, goes) =
+    ([], (empty, refl, same, ap (λ (o : Option Ended). is_some o) goes))
+judged_answered c old (m ∷ ms) js replies new reason (inl ((e, fault, is), none, empty, same)) =
+    ([], inl ((e, fault), empty, refl, same, ap (λ (o : Option Ended). is_some o) is))
+judged_answered c old (m ∷ ms) js replies new reason
     (inr (response, j, reply, next, later, more, reads, is, told, frame, others)) =
-    let rest = judged_answered c next ms later more new ends others in (
+    let rest = judged_answered c next ms later more new reason others in (
       accepted_by reply ++ rest.0,
       inr (
         response,

@@ -1,15 +1,18 @@
 -- The bytes behind a stream that is up.
-use Rattle.std.proofs.Common.{◌≡◌, ◌≤◌, ℕ, Bool, true, false, not, true≢false, Option, Some, None, List, [], ◌++◌, length, refl, ap, sym, ◌∙◌}
+use Rattle.std.proofs.Common.{◌≡◌, ◌≤◌, ◌||◌, ℕ, Bool, true, false, not, true≢false, Option, Some, None, List, [], ◌++◌, length, refl, ap, sym, ◌∙◌}
 use Rattle.std.specs.Prelude.{is_none, is_some}
 use Rattle.xds_wire.specs.Frames.{IsBeginning, Tail, unfinished, broken, Cut}
+use Rattle.xds_wire.specs.declared.fault.FrameFault.{FrameFault}
 use Rattle.xds_wire.specs.Stream.{Kept, Resumes, Feeds, IsUnfinished, StaysPartial, CompletesOne}
 use Rattle.xds_wire.proofs.OneCut.{cut_one}
 use Rattle.ads.specs.Answer.{Accepted}
-use Rattle.ads.specs.Client.{ClientValue, AreAnswered, Feeds as ClientFeeds, most_bytes, stream_after}
+use Rattle.ads.specs.Client.{ClientValue, AreAnswered, Feeds as ClientFeeds, ended_by, fault_in, most_bytes, stream_after}
 use Rattle.ads.specs.Control.{ControlValue, ServesBytes}
 use Rattle.ads.specs.Judgements.{AreJudged, TellsBy}
+use Rattle.ads.specs.declared.ended.Ended.{Ended}
+use Rattle.ads.specs.declared.ended.Ended.TheVariants as ended
 use Rattle.ads.specs.declared.judgement.Judgement.{Judgement}
-use Rattle.ads.specs.steps.Streams.{IsUp, rest_of}
+use Rattle.ads.specs.steps.Streams.{IsUp, kept_of, rest_of}
 
 cut_of : (max : ℕ) (tail : Tail) (bytes : List ℕ) (ms : List (List ℕ)) (t : Tail) → IsUnfinished tail
     → Resumes max tail bytes ms t → Cut (rest_of tail ++ bytes) max ms t
@@ -121,34 +124,37 @@ fed_stream old new rest bytes next messages versions tail ends replies given is_
 -- bytes that complete no message tell nothing
 pub part_told : (old new : ClientValue) (rest bytes replies : List ℕ) (js : List Judgement) → old.stream ≡ Some rest
     → IsBeginning most_bytes (rest ++ bytes) → replies ≡ [] → js ≡ [] → new.accepted ≡ old.accepted
-    → TellsBy old.stream old bytes replies js new
+    → TellsBy old.stream old bytes replies js None new
 part_told old new rest bytes replies js up begins none empty same = rw up (record {
   messages = [];
   tail = unfinished (rest ++ bytes);
-  ends = false;
+  reason = None;
   cut = record { rest = rest ++ bytes; whole = refl; allowed = tt; ends = (refl, begins) };
   judged = (empty, none, same, refl);
+  told = refl;
 })
 
--- the judgements of the messages of the stream
+-- the judgements of the messages of the stream, and why it ends
 pub told_stream : (old new : ClientValue) (rest bytes : List ℕ) (next : Accepted) (messages : List (List ℕ))
-    (tail : Tail) (ends : Bool) (replies given : List ℕ) (js told : List Judgement)
+    (tail : Tail) (reason : Option Ended) (replies given : List ℕ) (js told : List Judgement) (ends : Option Ended)
     → old.stream ≡ Some rest → Cut (rest ++ bytes) most_bytes messages tail
-    → AreJudged old.config old.accepted messages told given next ends
-    → replies ≡ given → js ≡ told → new.accepted ≡ next → TellsBy old.stream old bytes replies js new
-told_stream old new rest bytes next messages tail ends replies given js told up cut judged same each state =
+    → AreJudged old.config old.accepted messages told given next reason
+    → replies ≡ given → js ≡ told → ends ≡ ended_by reason (fault_in tail) → new.accepted ≡ next
+    → TellsBy old.stream old bytes replies js ends new
+told_stream old new rest bytes next messages tail reason replies given js told ends up cut judged same each is state =
     rw up (record {
       messages = messages;
       tail = tail;
-      ends = ends;
+      reason = reason;
       cut = cut;
       judged = rw (same, each, state) judged;
+      told = is;
     })
 
--- nothing is told if no stream is up
+-- nothing is judged if no stream is up
 pub told_down : (stream : Option (List ℕ)) (old new : ClientValue) (bytes replies : List ℕ) (js : List Judgement)
-    → is_some stream ≡ false → js ≡ [] → TellsBy stream old bytes replies js new
-told_down None old new bytes replies js down none = none
+    → is_some stream ≡ false → js ≡ [] → TellsBy stream old bytes replies js (Some ended.NotUp) new
+told_down None old new bytes replies js down none = (none, refl)
 told_down (Some rest) old new bytes replies js down none = absurd (true≢false down)
 
 -- bytes that complete at most one frame
@@ -156,3 +162,57 @@ pub one_known : (t : Tail) (bytes : List ℕ) (messages : List (List ℕ)) (afte
     → CompletesOne most_bytes t bytes → Cut (rest_of t ++ bytes) most_bytes messages after → length messages ≤ 1
 one_known (unfinished rest) bytes messages after up one cut = one messages after cut
 one_known (broken fault) bytes messages after up one cut = absurd up
+
+-- ---- the end of a stream
+
+-- no stream is up exactly if there is a reason
+ends_so : (reason : Option Ended) (tail : Tail)
+    → is_some (ended_by reason (fault_in tail)) ≡ is_none (stream_after (is_some reason) tail)
+ends_so (Some e) tail = refl
+ends_so None (broken fault) = refl
+ends_so None (unfinished rest) = refl
+
+pub ends_if : (reason : Option Ended) (tail : Tail) (ends : Option Ended) (stream : Option (List ℕ))
+    → ends ≡ ended_by reason (fault_in tail) → stream ≡ stream_after (is_some reason) tail
+    → is_some ends ≡ is_none stream
+ends_if reason tail ends stream is after = rw (is, after) (ends_so reason tail)
+
+-- the stream that is kept
+pub kept_after : (reason : Option Ended) (tail : Tail)
+    → kept_of (is_some (ended_by reason (fault_in tail))) tail ≡ stream_after (is_some reason) tail
+kept_after (Some e) tail = refl
+kept_after None (broken fault) = refl
+kept_after None (unfinished rest) = refl
+
+pub kept_so : (reason ended : Option Ended) (fault : Option FrameFault) (tail after : Tail) (ends : Bool)
+    (stream : Option (List ℕ)) → fault ≡ fault_in tail → ended ≡ ended_by reason fault → ends ≡ is_some ended
+    → after ≡ tail → stream ≡ kept_of ends after → stream ≡ stream_after (is_some reason) tail
+kept_so reason ended fault tail after ends stream faulty why told same kept =
+    let is : stream ≡ kept_of (is_some (ended_by reason (fault_in tail))) tail = rw (told, why, faulty, same) at kept in
+    is ∙ kept_after reason tail
+
+-- a stream that goes on: no message ended it, and its frames are not broken
+pub no_reason : (reason : Option Ended) (fault : Option FrameFault) → is_some (ended_by reason fault) ≡ false
+    → reason ≡ None
+no_reason None fault goes = refl
+no_reason (Some e) fault goes = absurd (true≢false goes)
+
+pub no_fault : (reason : Option Ended) (tail : Tail) → is_some (ended_by reason (fault_in tail)) ≡ false
+    → IsUnfinished tail
+no_fault None (unfinished rest) goes = tt
+no_fault None (broken fault) goes = absurd (true≢false goes)
+no_fault (Some e) tail goes = absurd (true≢false goes)
+
+-- the stream of a control plane that is kept
+pub served_after : (ends : Bool) (tail : Tail)
+    → kept_of (ends || is_some (fault_in tail)) tail ≡ stream_after ends tail
+served_after true tail = refl
+served_after false (broken fault) = refl
+served_after false (unfinished rest) = refl
+
+pub served_so : (ends over : Bool) (fault : Option FrameFault) (tail after : Tail) (stream : Option (List ℕ))
+    → fault ≡ fault_in tail → over ≡ (ends || is_some fault) → after ≡ tail → stream ≡ kept_of over after
+    → stream ≡ stream_after ends tail
+served_so ends over fault tail after stream faulty is same kept =
+    let kept' : stream ≡ kept_of (ends || is_some (fault_in tail)) tail = rw (is, faulty, same) at kept in
+    kept' ∙ served_after ends tail

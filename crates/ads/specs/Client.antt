@@ -6,6 +6,7 @@ use Rattle.proto_wire.specs.declared.refusal.Refusal.{Refusal}
 use Rattle.attributes.specs.Limits.{LimitsValue}
 use Rattle.xds_wire.specs.Envelope.{SomeOf}
 use Rattle.xds_wire.specs.Frames.{Tail, unfinished, broken, Cut, frame_of}
+use Rattle.xds_wire.specs.declared.fault.FrameFault.{FrameFault}
 use Rattle.xds_wire.specs.Discovery.{RequestMessage, ResponseMessage, IsResponse, ResponseFault}
 use Rattle.xds_wire.specs.Written.{RequestWritten}
 use Rattle.ads.specs.Config.{ConfigValue, FilterValue}
@@ -13,6 +14,8 @@ use Rattle.cel_tree.specs.Checked.{CelChecked}
 use Rattle.rbac_policy.specs.Filter.{Filter}
 use Rattle.rbac_policy.specs.Admission.{Admits}
 use Rattle.ads.specs.Answer.{Accepted, AdmittedValue, Answers, nothing_accepted}
+use Rattle.ads.specs.declared.ended.Ended.{Ended}
+use Rattle.ads.specs.declared.ended.Ended.TheVariants as ended
 
 -- the greatest length of a message in bytes
 abbrev pub most_bytes : ℕ
@@ -57,6 +60,17 @@ abbrev pub stream_after : Bool → Tail → Option (List ℕ)
 stream_after false (unfinished rest) = Some rest
 stream_after false (broken fault) = None
 stream_after true tail = None
+
+-- why the bytes after whole frames begin with no frame; none if they are unfinished
+abbrev pub fault_in : Tail → Option FrameFault
+fault_in (unfinished rest) = None
+fault_in (broken fault) = Some fault
+
+-- why a stream ends: because of a message, or since no frame follows the messages; none if it goes on
+abbrev pub ended_by : Option Ended → Option FrameFault → Option Ended
+ended_by (Some reason) fault = Some reason
+ended_by None (Some fault) = Some (ended.BadFrame fault)
+ended_by None None = None
 
 -- further bytes arrive after the unfinished ones: the messages that they complete are answered
 pub record FeedsStream (old : ClientValue) (rest bytes replies : List ℕ) (versions : List (List ℕ))

@@ -1,19 +1,22 @@
--- The judgements of the responses of a stream, beside the answers to them (this project's own).
-use Rattle.std.specs.Prelude.{◌≡◌, ◌≢◌, ◌⊎◌, ℕ, zero, suc, Bool, false, Option, Some, None, List, [], ◌∷◌, ◌++◌, map, is_some}
+-- The judgements of the responses of a stream, beside the answers to them, and why the stream ends (this project's
+-- own).
+use Rattle.std.specs.Prelude.{◌≡◌, ◌≢◌, ◌⊎◌, ℕ, zero, suc, Option, Some, None, List, [], ◌∷◌, ◌++◌, map, is_some}
 use Rattle.std.specs.List.{AllZip}
 use Rattle.std.specs.String.{string_bytes}
 use Rattle.attributes.specs.Limits.{LimitsValue}
 use Rattle.proto_wire.specs.Places.{FaultOr}
 use Rattle.proto_wire.specs.declared.placed.Fault.{Fault as Placed}
 use Rattle.proto_wire.specs.declared.refusal.Refusal.{Refusal}
-use Rattle.xds_wire.specs.Discovery.{ExtensionMessage, IsResponse, RequestMessage, ResponseMessage}
+use Rattle.xds_wire.specs.Discovery.{ExtensionMessage, IsResponse, RequestMessage, ResponseFault, ResponseMessage}
 use Rattle.xds_wire.specs.Envelope.{SomeOf}
 use Rattle.xds_wire.specs.Frames.{Cut, Tail}
 use Rattle.rbac_policy.specs.Admission.{Fault}
 use Rattle.rbac_policy.specs.Places.{PlacedOr, of_filter}
 use Rattle.ads.specs.Answer.{Accepted, Accepts, HoldsFilter, HoldsFilterOf, IsResource, RefusesNothing, ResourceFault, ack_of, extension_type, nack_of, named}
-use Rattle.ads.specs.Client.{ClientValue, EndsStream, IsFrameThen, most_bytes}
+use Rattle.ads.specs.Client.{ClientValue, IsFrameThen, ended_by, fault_in, most_bytes}
 use Rattle.ads.specs.Config.{ConfigValue, FilterValue}
+use Rattle.ads.specs.declared.ended.Ended.{Ended}
+use Rattle.ads.specs.declared.ended.Ended.TheVariants as ended
 use Rattle.ads.specs.declared.judgement.Judgement.{Judgement}
 use Rattle.ads.specs.declared.judgement.Outcome.{Outcome}
 use Rattle.ads.specs.declared.judgement.Outcome.TheVariants as outcomes
@@ -70,28 +73,38 @@ pub record IsJudgedAs (c : ConfigValue) (response : ResponseMessage) (old : Acce
   pub nonce : string_bytes j.nonce ≡ response.nonce
   pub outcome : HasOutcome c response old j.outcome reply new
 
+-- the message is not a response, because of this fault: it gets no answer, changes nothing and ends the stream
+abbrev pub EndsFor : List ℕ → Accepted → List Judgement → List ℕ → Accepted → Option Ended → Type 0
+EndsFor message old judgements replies new reason =
+    ((e : Refusal) × ResponseFault message e × (reason ≡ Some (ended.BadMessage e)))
+    × (judgements ≡ []) × (replies ≡ []) × (new ≡ old)
+
 -- the messages of a stream are answered in order, and these are the judgements of its responses: one for each answer,
--- in the same order
-abbrev pub AreJudged : ConfigValue → Accepted → List (List ℕ) → List Judgement → List ℕ → Accepted → Bool → Type 0
-AreJudged c old [] judgements replies new ends =
-    (judgements ≡ []) × (replies ≡ []) × (new ≡ old) × (ends ≡ false)
-AreJudged c old (message ∷ messages) judgements replies new ends =
-    ((judgements ≡ []) × EndsStream message old replies [] new ends)
+-- in the same order. If a message ended the stream, this is the reason
+abbrev pub AreJudged : ConfigValue → Accepted → List (List ℕ) → List Judgement → List ℕ → Accepted → Option Ended
+    → Type 0
+AreJudged c old [] judgements replies new reason =
+    (judgements ≡ []) × (replies ≡ []) × (new ≡ old) × (reason ≡ None)
+AreJudged c old (message ∷ messages) judgements replies new reason =
+    EndsFor message old judgements replies new reason
     ⊎ ((response : ResponseMessage) × (j : Judgement) × (reply : RequestMessage) × (next : Accepted)
     × (later : List Judgement) × (more : List ℕ) × IsResponse message response
     × IsJudgedAs c response old j reply next × (judgements ≡ j ∷ later) × IsFrameThen reply replies more
-    × AreJudged c next messages later more new ends)
+    × AreJudged c next messages later more new reason)
 
--- the bytes of a stream with unfinished bytes complete these responses
+-- the bytes of a stream with unfinished bytes complete these responses, and may end the stream
 pub record TellsStream (old : ClientValue) (rest bytes replies : List ℕ) (judgements : List Judgement)
-    (new : ClientValue) : Type 0 where
+    (ends : Option Ended) (new : ClientValue) : Type 0 where
   pub messages : List (List ℕ)
   pub tail : Tail
-  pub ends : Bool
+  pub reason : Option Ended
   pub cut : Cut (rest ++ bytes) most_bytes messages tail
-  pub judged : AreJudged old.config old.accepted messages judgements replies new.accepted ends
+  pub judged : AreJudged old.config old.accepted messages judgements replies new.accepted reason
+  pub told : ends ≡ ended_by reason (fault_in tail)
 
--- bytes arrive: the judgements of the responses that they complete, beside the answers; none if no stream is up
-abbrev pub TellsBy : Option (List ℕ) → ClientValue → List ℕ → List ℕ → List Judgement → ClientValue → Type 0
-TellsBy None old bytes replies judgements new = judgements ≡ []
-TellsBy (Some rest) old bytes replies judgements new = TellsStream old rest bytes replies judgements new
+-- bytes arrive: the judgements of the responses that they complete, beside the answers, and why the stream ends. There
+-- are no judgements if no stream is up
+abbrev pub TellsBy : Option (List ℕ) → ClientValue → List ℕ → List ℕ → List Judgement → Option Ended → ClientValue
+    → Type 0
+TellsBy None old bytes replies judgements ends new = (judgements ≡ []) × (ends ≡ Some ended.NotUp)
+TellsBy (Some rest) old bytes replies judgements ends new = TellsStream old rest bytes replies judgements ends new

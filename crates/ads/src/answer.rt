@@ -1,6 +1,6 @@
 //! The answers to the messages of a stream, in order.
 
-ghost use Rattle.std.specs.Prelude.{◌≡◌, ◌++◌, ℕ, false, [], List, Option, length, map, is_some, IfOk, OnOk, MatchBool};
+ghost use Rattle.std.specs.Prelude.{◌≡◌, ◌++◌, ℕ, None, [], List, Option, length, map, is_some, IfOk, OnOk, MatchOption};
 ghost use Rattle.std.specs.String.{string_bytes};
 ghost use Rattle.xds_wire.specs.View.{response_view};
 ghost use Rattle.ads.specs.Answer.{AdmittedValue};
@@ -12,6 +12,7 @@ ghost use Rattle.ads.specs.steps.Taking.{IsJudged};
 
 use crate::accepted::Draft;
 use crate::config::Config;
+use crate::ended::Ended;
 use crate::judgement::{Judgement, Outcome, Refused};
 use crate::judging::{Judged, judge};
 use crate::refused::{Refusing, memory_apart};
@@ -20,51 +21,50 @@ use rbac_policy::Admitted;
 use std::alloc::{AllocError, Global};
 use xds_wire::{DiscoveryResponse, Frames, read_response};
 
-/// Answers the complete messages, up to one that is not a response, which ends the stream. Returns whether there is
-/// one.
+/// Answers the complete messages, up to one that is not a response, which ends the stream. Returns why, if there is one.
 pub(crate) fn answer_all(
     alloc: Global,
     config: &Config,
     draft: &mut Draft,
     frames: &mut Frames,
-) -> Result<bool, AllocError>
+) -> Result<Option<Ended>, AllocError>
     requires { Covers (length config.now.filters) draft.old.given.items }
-    ensures answered { IfOk result (λ ends. (old : List (Option AdmittedValue)) → (judgements : List Judgement)
+    ensures answered { IfOk result (λ reason. (old : List (Option AdmittedValue)) → (judgements : List Judgement)
         × (replies : List ℕ) × AreJudged config.now (draft_view old draft.old) frames.old.messages judgements
-        replies (draft_view old draft.new) ends
+        replies (draft_view old draft.new) reason
         × (draft.new.judgements.items ≡ draft.old.judgements.items ++ judgements)
         × (draft.new.replies.items ≡ draft.old.replies.items ++ replies)) }
-    ensures covers { IfOk result (λ ends. Covers (length config.now.filters) draft.new.given.items) }
+    ensures covers { IfOk result (λ reason. Covers (length config.now.filters) draft.new.given.items) }
     ensures frames { (frames.new.max ≡ frames.old.max) × (frames.new.tail ≡ frames.old.tail) }
-    ensures taken { IfOk result (λ ends. ends ≡ false → frames.new.messages ≡ []) }
+    ensures taken { IfOk result (λ reason. reason ≡ None → frames.new.messages ≡ []) }
 {
     while let Some(message) = frames.next() {
-        if !answer(alloc, config, draft, message.as_slice())? {
-            return Ok(true);
+        if let Some(reason) = answer(alloc, config, draft, message.as_slice())? {
+            return Ok(Some(reason));
         }
     }
-    Ok(false)
+    Ok(None)
 }
 
-/// Answers a message if it is a response, and returns whether it is one.
+/// Answers a message if it is a response. If it is not, it ends the stream: returns why.
 fn answer(
     alloc: Global,
     config: &Config,
     draft: &mut Draft,
     message: &[u8],
-) -> Result<bool, AllocError>
+) -> Result<Option<Ended>, AllocError>
     requires { Covers (length config.now.filters) draft.old.given.items }
-    ensures answered { IfOk result (λ is_response. (old : List (Option AdmittedValue)) → MatchBool is_response
+    ensures answered { IfOk result (λ reason. (old : List (Option AdmittedValue)) → MatchOption reason
         (IsAnswered config.now old message.now draft.old draft.new)
         (IsNoResponse old message.now draft.old draft.new)) }
-    ensures covers { IfOk result (λ is_response. Covers (length config.now.filters) draft.new.given.items) }
+    ensures covers { IfOk result (λ reason. Covers (length config.now.filters) draft.new.given.items) }
 {
     match memory_apart(read_response(alloc, message))? {
         Ok(response) => {
             answer_response(alloc, config, draft, &response)?;
-            Ok(true)
+            Ok(None)
         }
-        Err(_) => Ok(false),
+        Err(refusal) => Ok(Some(Ended::BadMessage(refusal))),
     }
 }
 

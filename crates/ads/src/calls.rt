@@ -10,6 +10,7 @@ ghost use Rattle.ads.specs.Client.{IsFrameThen};
 use crate::accepted::State;
 use crate::client::{Client, Fed};
 use crate::config::Config;
+use crate::ended::Ended;
 use crate::reply::put_first;
 use crate::stream::{Stream, answered};
 use rbac_policy::Admitted;
@@ -51,13 +52,14 @@ impl Client {
     /// with the number of a refusal. That is `WrongType`, `BadWire`, `BadText`, `Missing`, `DuplicateResource` or one
     /// of `rbac_policy::admit`, which include `Memory`. Its judgement says which filter is refused, and which part of its
     /// message has the fault. A broken frame or a message that is not a response ends the stream. Without a stream
-    /// nothing is done, which takes no memory. In these cases the result is `broken`. The only error is out of memory
-    /// outside of an admission; after it all is as before the call.
+    /// nothing is done, which takes no memory. In these cases the result says why no stream is up. The only error is
+    /// out of memory outside of an admission; after it all is as before the call.
     pub fn feed(&mut self, bytes: &[u8]) -> Result<Fed, AllocError>
         ensures found { IfOk result (λ fed. (versions : List (List ℕ))
-            × Feeds (client_view self.old) bytes.now fed.replies.items fed.broken versions (client_view self.new)) }
+            × Feeds (client_view self.old) bytes.now fed.replies.items (is_some fed.ended) versions
+            (client_view self.new)) }
         ensures judged { IfOk result (λ fed. TellsBy (client_view self.old).stream (client_view self.old) bytes.now
-            fed.replies.items fed.judgements.items (client_view self.new)) }
+            fed.replies.items fed.judgements.items fed.ended (client_view self.new)) }
         ensures config { (client_view self.new).config ≡ (client_view self.old).config }
         ensures down { (client_view self.old).stream ≡ None → IsOk result }
         ensures fault { OnErr result (client_view self.new ≡ client_view self.old) }
@@ -66,24 +68,29 @@ impl Client {
             return Ok(Fed {
                 replies: Vec::new(self.alloc),
                 judgements: Vec::new(self.alloc),
-                broken: true,
+                ended: Some(Ended::NotUp),
             });
         };
         if stream.keeps(bytes)? {
             return Ok(Fed {
                 replies: Vec::new(self.alloc),
                 judgements: Vec::new(self.alloc),
-                broken: false,
+                ended: None,
             });
         }
-        let (draft, stream) = answered(self.alloc, &self.config, &self.accepted, stream, bytes)?;
-        let broken = stream.is_none();
+        let (draft, stream, ended) = answered(
+            self.alloc,
+            &self.config,
+            &self.accepted,
+            stream,
+            bytes,
+        )?;
         self.stream = stream;
         let (replies, judgements) = self.accepted.commit(draft);
         Ok(Fed {
             replies,
             judgements,
-            broken,
+            ended,
         })
     }
 

@@ -7,6 +7,7 @@ ghost use Rattle.ads.specs.Views.{policies_view};
 
 use crate::accepted::State;
 use crate::config::Config;
+use crate::ended::Ended;
 use crate::judgement::Judgement;
 use crate::stream::Stream;
 use std::alloc::Global;
@@ -18,8 +19,8 @@ pub struct Fed {
     pub replies: Vec<u8>,
     /// The judgements of the responses that were complete, in order.
     pub judgements: Vec<Judgement>,
-    /// Whether no stream is up after the call.
-    pub broken: bool,
+    /// Why no stream is up after the call. None if one is up.
+    pub ended: Option<Ended>,
 }
 
 /// A client that subscribes to the filters of a configuration, and keeps what it accepted for them (xDS, state of the

@@ -1,12 +1,14 @@
 //! A stream that is up, and the effects of its bytes.
 
-ghost use Rattle.std.specs.Prelude.{◌≡◌, ◌<◌, ◌≤◌, ◌++◌, ℕ, false, [], List, Bool, length, IfOk, OnErr, MatchBool};
+ghost use Rattle.std.specs.Prelude.{◌≡◌, ◌<◌, ◌≤◌, ◌||◌, ◌++◌, ℕ, false, [], List, Bool, Option, length, is_some, IfOk, OnErr, MatchBool};
 ghost use Rattle.xds_wire.specs.Frames.{Cut, IsBeginning, Tail};
+ghost use Rattle.xds_wire.specs.Stream.{IsUnfinished};
 ghost use Rattle.xds_wire.specs.Stream as wire;
-ghost use Rattle.ads.specs.Client.{most_bytes, stream_after};
+ghost use Rattle.ads.specs.declared.ended.Ended.{Ended};
+ghost use Rattle.ads.specs.Client.{ended_by, fault_in, most_bytes, stream_after};
 ghost use Rattle.ads.specs.Judgements.{AreJudged};
 ghost use Rattle.ads.specs.Views.{policies_view};
-ghost use Rattle.ads.specs.steps.Streams.{StreamIsBroken};
+ghost use Rattle.ads.specs.steps.Streams.{kept_of};
 ghost use Rattle.ads.specs.Ends.{state_view};
 ghost use Rattle.ads.specs.steps.Drafts.{Covers, draft_view};
 ghost use Rattle.ads.specs.Control.{AreServed};
@@ -15,12 +17,13 @@ ghost use Rattle.ads.specs.Views.{served_view, snapshots_view};
 use crate::accepted::{Draft, State};
 use crate::answer::answer_all;
 use crate::config::Config;
+use crate::ended::Ended;
 use crate::response::MOST_BYTES;
 use crate::serving::{Served, serve_all};
 use crate::snapshot::Snapshot;
 use std::alloc::{AllocError, Global};
 use std::marker::Model;
-use xds_wire::{FrameError, Frames};
+use xds_wire::{FrameError, FrameFault, Frames};
 
 /// A stream that is up. All its complete messages were answered.
 #[derive(Debug, Drop)]
@@ -74,26 +77,41 @@ impl Stream {
     }
 }
 
-/// Answers the bytes: the draft with the accepted state, the replies and the judgements, and the stream after them.
+/// Answers the bytes: the draft with the accepted state, the replies and the judgements. Also the stream after them, or
+/// why it ended.
 pub(crate) fn answered(
     alloc: Global,
     config: &Config,
     accepted: &State,
     stream: &Stream,
     bytes: &[u8],
-) -> Result<(Draft, Option<Stream>), AllocError>
-    ensures answered { IfOk result (λ r. (messages : List (List ℕ)) × (tail : Tail) × (ends : Bool)
+) -> Result<(Draft, Option<Stream>, Option<Ended>), AllocError>
+    ensures answered { IfOk result (λ r. (messages : List (List ℕ)) × (tail : Tail) × (reason : Option Ended)
         × Cut (stream.now ++ bytes.now) most_bytes messages tail
         × AreJudged config.now (state_view accepted.now) messages r.0.judgements.items r.0.replies.items
-        (draft_view (policies_view accepted.now.policies.items) r.0) ends
-        × (r.1 ≡ stream_after ends tail)) }
+        (draft_view (policies_view accepted.now.policies.items) r.0) reason
+        × (r.1 ≡ stream_after (is_some reason) tail) × (r.2 ≡ ended_by reason (fault_in tail))) }
     ensures covers { IfOk result (λ r. Covers (length config.now.filters) r.0.given.items) }
 {
     let mut frames = stream.frames.copy()?;
     let mut draft = Draft::new(alloc, accepted)?;
-    let is_faulty = feed_frames(&mut frames, bytes)?;
-    let ends = answer_all(alloc, config, &mut draft, &mut frames)?;
-    Ok((draft, kept(frames, ends, is_faulty)))
+    let fault = feed_frames(&mut frames, bytes)?;
+    let reason = answer_all(alloc, config, &mut draft, &mut frames)?;
+    let ended = end_of(reason, fault);
+    Ok((draft, kept(frames, ended.is_some()), ended))
+}
+
+/// Why a stream ends: a message ended it, or its frames are broken.
+fn end_of(reason: Option<Ended>, fault: Option<FrameFault>) -> Option<Ended>
+    ensures { result ≡ ended_by reason fault }
+{
+    if reason.is_some() {
+        return reason;
+    }
+    match fault {
+        Some(fault) => Some(Ended::BadFrame(fault)),
+        None => None,
+    }
 }
 
 /// Serves the bytes at a control plane: the serving state after them, the bytes to send, and the stream after them.
@@ -112,36 +130,42 @@ pub(crate) fn served_by(
     let mut frames = stream.frames.copy()?;
     let mut served = served;
     let mut replies = Vec::new(alloc);
-    let is_faulty = feed_frames(&mut frames, bytes)?;
+    let fault = feed_frames(&mut frames, bytes)?;
     let ends = serve_all(alloc, snapshots, &mut served, &mut replies, &mut frames)?;
-    Ok((served, replies, kept(frames, ends, is_faulty)))
+    let ended = is_over(ends, fault);
+    Ok((served, replies, kept(frames, ended)))
 }
 
-/// The stream, if no message ended it and its frames are not broken.
-fn kept(frames: Frames, ends: bool, is_faulty: bool) -> Option<Stream>
-    requires faulty { StreamIsBroken is_faulty frames.tail }
-    requires max { frames.max ≡ most_bytes }
-    requires taken { ends ≡ false → frames.messages ≡ [] }
-    ensures { result ≡ stream_after ends frames.tail }
+/// Whether a stream ends: a message ended it, or its frames are broken.
+fn is_over(ends: bool, fault: Option<FrameFault>) -> bool
+    ensures { result ≡ (ends || is_some fault) }
 {
-    if ends {
-        return None;
-    }
-    if is_faulty {
+    ends || fault.is_some()
+}
+
+/// The stream, unless it ended.
+fn kept(frames: Frames, ended: bool) -> Option<Stream>
+    requires max { frames.max ≡ most_bytes }
+    requires taken { ended ≡ false → frames.messages ≡ [] }
+    requires whole { ended ≡ false → IsUnfinished frames.tail }
+    ensures { result ≡ kept_of ended frames.tail }
+{
+    if ended {
         return None;
     }
     Some(Stream { frames })
 }
 
-/// Feeds the frames, and returns whether they are broken now. After an error all is as before the call.
-fn feed_frames(frames: &mut Frames, bytes: &[u8]) -> Result<bool, AllocError>
-    ensures found { IfOk result (λ is_faulty. wire.Feeds frames.old bytes.now frames.new
-        × StreamIsBroken is_faulty frames.new.tail) }
+/// Feeds the frames, and returns why they are broken now, if they are. After an error all is as before the call.
+fn feed_frames(frames: &mut Frames, bytes: &[u8]) -> Result<Option<FrameFault>, AllocError>
+    ensures found { IfOk result (λ fault. wire.Feeds frames.old bytes.now frames.new
+        × (fault ≡ fault_in frames.new.tail)) }
     ensures fault { OnErr result (frames.new ≡ frames.old) }
 {
     match frames.feed(bytes) {
-        Ok(()) => Ok(false),
+        Ok(()) => Ok(None),
         Err(FrameError::Memory) => Err(AllocError),
-        Err(FrameError::Compressed | FrameError::TooLong) => Ok(true),
+        Err(FrameError::Compressed) => Ok(Some(FrameFault::Compressed)),
+        Err(FrameError::TooLong) => Ok(Some(FrameFault::TooLong)),
     }
 }

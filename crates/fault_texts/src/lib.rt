@@ -5,7 +5,9 @@
 mod meanings;
 mod refused_part;
 mod response_fault;
+mod stream_end;
 
 pub use meanings::{meaning_of, rule_of};
 pub use refused_part::{Meaning, RefusedPart, StepsLeft};
 pub use response_fault::{ResponseFault, fault_of};
+pub use stream_end::StreamEnd;

@@ -11,7 +11,7 @@ mod session;
 mod step;
 mod told;
 
-pub use ads::{Client, Config, ConfigFault, Fed, Filter, Judgement};
+pub use ads::{Client, Config, ConfigFault, Ended, Fed, Filter, Judgement};
 pub use attributes::{Conn, Ip, Limit, LimitFault, Limits, Request, parse_ip};
 pub use event::{Event, Output};
 pub use http_front::{Ask, Case, HeadFault, HeadPart, Reply};

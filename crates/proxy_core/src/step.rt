@@ -13,7 +13,7 @@ ghost use Rattle.proxy_core.specs.steps.Fronts.{IsOpenFor, KeepsAt};
 use crate::event::{Event, Output};
 use crate::hearing::{opened, taken};
 use crate::proxy::Proxy;
-use ads::{Client, Config, Judgement};
+use ads::{Client, Config, Ended, Judgement};
 use attributes::Conn;
 use http_front::Front;
 use std::alloc::{AllocError, Global};
@@ -105,21 +105,29 @@ impl Proxy {
     }
 
     /// Takes the event that the update stream delivers bytes, as `step` does. Also returns the judgements of the
-    /// responses that the bytes complete, for a log: one for each request in the output, in the same order.
-    pub fn hear_updates(&mut self, bytes: &[u8]) -> Result<(Output, Vec<Judgement>), AllocError>
+    /// responses that the bytes complete, for a log: one for each request in the output, in the same order. The last
+    /// part of the result says why no stream is up afterwards; None if one is.
+    pub fn hear_updates(
+        &mut self,
+        bytes: &[u8],
+    ) -> Result<(Output, Vec<Judgement>, Option<Ended>), AllocError>
         ensures found { IfOk result (λ r.
             StepsBy (proxy_view self.old) (ads_bytes bytes.now) (output_view r.0) (proxy_view self.new)) }
         ensures judged { IfOk result (λ r. let client = (proxy_view self.old).client in
-            TellsBy client.stream client bytes.now r.0.ads.items r.1.items (proxy_view self.new).client) }
+            TellsBy client.stream client bytes.now r.0.ads.items r.1.items r.2 (proxy_view self.new).client) }
         ensures fault { OnErr result (proxy_view self.new ≡ proxy_view self.old) }
         ensures sure { TakesNoMemory (proxy_view self.old) (ads_bytes bytes.now) → IsOk result }
     {
         if !self.client.is_up() {
-            return Ok((Output::none(self.alloc), Vec::new(self.alloc)));
+            return Ok((
+                Output::none(self.alloc),
+                Vec::new(self.alloc),
+                Some(Ended::NotUp),
+            ));
         }
         let fed = self.client.feed(bytes)?;
-        let output = Output::on_ads(self.alloc, fed.replies, fed.broken);
-        Ok((output, fed.judgements))
+        let output = Output::on_ads(self.alloc, fed.replies, fed.ended.is_some());
+        Ok((output, fed.judgements, fed.ended))
     }
 
     /// The update stream comes up.
@@ -140,7 +148,7 @@ impl Proxy {
         ensures sure { TakesNoMemory (proxy_view self.old) (ads_bytes bytes.now) → IsOk result }
     {
         match self.hear_updates(bytes) {
-            Ok((output, _)) => Ok(output),
+            Ok((output, _, _)) => Ok(output),
             Err(AllocError) => Err(AllocError),
         }
     }

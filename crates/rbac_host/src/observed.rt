@@ -1,6 +1,6 @@
 //! A worker whose events are counted, logged and recorded. None of that has an effect on its answers.
 
-use crate::words::{closed_of, word_of};
+use crate::words::{closed_of, words_of};
 use ads::Judgement;
 use attributes::Conn;
 use host_logs::{Connections, Logs, Scene, micros, unix_millis, verdict_of};
@@ -89,15 +89,19 @@ impl<R: Clock, F: LogFiles + Drop> Observed<'_, R, F> {
         }
     }
 
-    // The update stream is down, for this reason.
-    fn note_loss(&mut self, reason: &str) {
-        self.admin.metrics.stream(false);
-        if let Ok(why) = String::from_str(self.alloc, reason) {
-            self.admin.status.stream = StreamStatus::Down {
-                since: unix_millis(self.rt),
-                why,
-            };
+    // Logs that the update stream was lost, and notes it in the status.
+    fn note_loss(&mut self, loss: Loss) {
+        let Ok(why) = words_of(self.alloc, loss) else {
+            return;
+        };
+        // of a stream that was never up the network knows the cause
+        if loss != Loss::Unreachable {
+            self.log_update(&Update::Lost(why.as_str()));
         }
+        self.admin.status.stream = StreamStatus::Down {
+            since: unix_millis(self.rt),
+            why,
+        };
     }
 }
 
@@ -176,20 +180,19 @@ impl<R: Clock, F: LogFiles + Drop> Service for Observed<'_, R, F> {
         Ok(Taken {
             count: fed.count,
             response: judgement.map(judged),
-            closes: fed.closes,
+            ended: fed.ended,
         })
     }
 
     fn lost(&mut self, loss: Loss) {
         self.worker.lost();
-        // of a stream that was never up the network knows the cause
+        self.admin.metrics.stream(false);
         if loss != Loss::Unreachable {
             if let Some(recorder) = &mut self.logs.recorder {
                 recorder.lost();
             }
-            self.log_update(&Update::Lost(word_of(loss)));
         }
-        self.note_loss(word_of(loss));
+        self.note_loss(loss);
     }
 
     fn has_request(&self) -> bool {

@@ -1,21 +1,24 @@
 //! The words for what ends.
 
+use fault_texts::StreamEnd;
 use rbac_serve::{End, Loss};
 use serve_admin::Closed;
+use std::alloc::{AllocError, Global};
 
-/// The word for why an update stream was lost.
-pub(crate) fn word_of(loss: Loss) -> &'static str {
-    match loss {
+/// Why an update stream was lost, in words.
+pub(crate) fn words_of(alloc: Global, loss: Loss) -> Result<String, AllocError> {
+    let words = match loss {
         Loss::Unreachable => "unreachable",
         Loss::Closed => "closed",
         Loss::Reset => "reset",
-        Loss::Broken => "a bad frame",
+        Loss::Ended(ended) => return StreamEnd(ended).to_string(alloc),
         Loss::Http2 => "the other end speaks HTTP/2",
         Loss::Tls => "the other end speaks TLS",
         Loss::Late => "no response in time",
         Loss::Blocked => "a request was not taken in time",
         Loss::Memory => "out of memory",
-    }
+    };
+    String::from_str(alloc, words)
 }
 
 /// What is counted for the end of a connection.

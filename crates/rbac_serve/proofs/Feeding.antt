@@ -7,11 +7,14 @@ use Rattle.std.proofs.lemmas.List.{length-take-le}
 use Rattle.ads.specs.Answer.{Accepted, first_request}
 use Rattle.ads.specs.Client.{AreAnswered, ClientValue, CompletesOne, Feeds, FeedsBy, IsFrameThen, stream_down, stream_up}
 use Rattle.ads.specs.Config.{ConfigValue}
+use Rattle.ads.specs.Judgements.{TellsBy}
+use Rattle.ads.specs.declared.ended.Ended.{Ended}
+use Rattle.ads.specs.declared.judgement.Judgement.{Judgement}
 use Rattle.http_front.specs.Front.{FrontValue}
 use Rattle.proxy_core.specs.Events.{ads_bytes, ads_lost, ads_output, ads_up, no_output}
 use Rattle.proxy_core.specs.Step.{TakesAds, with_client}
 use Rattle.rbac_serve.specs.Tables.{FitsFor, WorkerValue}
-use Rattle.rbac_serve.specs.Turns.{IsOneRequest, Works}
+use Rattle.rbac_serve.specs.Turns.{IsOneRequest, JudgesTurn, Works, judges}
 
 -- the worker with another client and other requests that wait
 abbrev pub with_stream : WorkerValue → ClientValue → List ℕ → WorkerValue
@@ -118,3 +121,18 @@ module _ (bytes : List ℕ) (lacks count : ℕ) (is : count ≡ min lacks (lengt
 
   pub taken_some : 0 < lacks → bytes ≢ [] → 0 < count
   taken_some some there = rw is (le-min some (some_length bytes there))
+
+-- ---- what is judged
+
+pub none_up : (stream : Option (List ℕ)) → is_some stream ≡ false → stream ≡ None
+none_up None down = refl
+none_up (Some rest) down = absurd (true≢false down)
+
+-- what a client tells of a stream that is up
+pub judges_up : (old : WorkerValue) (bytes : List ℕ) (count : ℕ) (js : List Judgement) (ends : Option Ended)
+    (new : WorkerValue) (stream : Option (List ℕ)) → old.requests ≡ [] → old.core.client.stream ≡ stream
+    → is_some stream ≡ true
+    → TellsBy stream old.core.client (take count bytes) new.requests js ends new.core.client
+    → JudgesTurn old bytes count js ends new
+judges_up old bytes count js ends new None none is up told = absurd (true≢false (sym up))
+judges_up old bytes count js ends new (Some rest) none is up told = judges rest none is told

@@ -3,7 +3,8 @@ use Rattle.std.specs.Prelude.{◌≡◌, ◌≢◌, ◌<◌, ◌≤◌, ◌⊎�
 use Rattle.xds_wire.specs.Discovery.{RequestMessage}
 use Rattle.ads.specs.Answer.{Accepted}
 use Rattle.ads.specs.Client.{IsFrameThen}
-use Rattle.ads.specs.Judgements.{TellsBy}
+use Rattle.ads.specs.Judgements.{TellsStream}
+use Rattle.ads.specs.declared.ended.Ended.{Ended}
 use Rattle.ads.specs.declared.judgement.Judgement.{Judgement}
 use Rattle.http_front.specs.Front.{FrontValue}
 use Rattle.proxy_core.specs.Events.{EventValue, ads_up, ads_bytes, ads_lost, http_open, http_bytes, http_closed, OutputValue, ads_output, http_output}
@@ -89,14 +90,16 @@ pub data FeedsTurn (old : WorkerValue) (bytes : List ℕ) (count : ℕ) (closes 
       → Works old (ads_bytes (take count bytes)) (ads_output requests closes) new → IsOneRequest requests
       → FeedsTurn old bytes count closes new
 
--- the judgements of the responses that the bytes complete which are taken, beside the request that is put out; none while
--- a request waits
-pub data JudgesTurn (old : WorkerValue) (bytes : List ℕ) (count : ℕ) (judgements : List Judgement) (new : WorkerValue)
-    : Type 0 where
-  still : old.requests ≢ [] → judgements ≡ [] → JudgesTurn old bytes count judgements new
-  judges : old.requests ≡ []
-      → TellsBy old.core.client.stream old.core.client (take count bytes) new.requests judgements new.core.client
-      → JudgesTurn old bytes count judgements new
+-- the judgements of the responses that the bytes complete which are taken, beside the request that is put out, and why
+-- the stream ends. There are none while a request waits, or if no stream is up
+pub data JudgesTurn (old : WorkerValue) (bytes : List ℕ) (count : ℕ) (judgements : List Judgement)
+    (ends : Option Ended) (new : WorkerValue) : Type 0 where
+  still : old.requests ≢ [] → judgements ≡ [] → ends ≡ None → JudgesTurn old bytes count judgements ends new
+  no_stream : old.requests ≡ [] → old.core.client.stream ≡ None → judgements ≡ [] → ends ≡ None
+      → JudgesTurn old bytes count judgements ends new
+  judges : (rest : List ℕ) → old.requests ≡ [] → old.core.client.stream ≡ Some rest
+      → TellsStream old.core.client rest (take count bytes) new.requests judgements ends new.core.client
+      → JudgesTurn old bytes count judgements ends new
 
 -- ---- what was answered and what was sent
 

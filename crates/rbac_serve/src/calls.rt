@@ -1,6 +1,6 @@
 //! The events of a worker, and the writes of what waits.
 
-ghost use Rattle.std.specs.Prelude.{◌≡◌, ◌≢◌, ◌<◌, ◌≤◌, ◌↔◌, ℕ, List, [], length, take, false, IfOk, OnOk, OnErr, IsTrue};
+ghost use Rattle.std.specs.Prelude.{◌≡◌, ◌≢◌, ◌<◌, ◌≤◌, ◌↔◌, ℕ, List, [], length, take, false, is_some, IfOk, OnOk, OnErr, IsTrue};
 ghost use Rattle.std.specs.Io.KnownBytes.{Appends};
 ghost use Rattle.attributes.specs.Conn.{conn_view};
 ghost use Rattle.ads.specs.Ends.{client_view};
@@ -152,17 +152,17 @@ impl Worker {
     /// waits. While a request waits, none are taken. If no stream is up, bytes are dropped. The only error is out of
     /// memory outside of an admission; after it all is as before the call.
     pub fn feed(&mut self, bytes: &[u8]) -> Result<Fed, AllocError>
-        ensures found { IfOk result (λ fed. FeedsTurn (worker_view self.old) bytes.now fed.count fed.closes
+        ensures found { IfOk result (λ fed. FeedsTurn (worker_view self.old) bytes.now fed.count (is_some fed.ended)
             (worker_view self.new)) }
         ensures judged { IfOk result (λ fed. JudgesTurn (worker_view self.old) bytes.now fed.count
-            fed.judgements.items (worker_view self.new)) }
+            fed.judgements.items fed.ended (worker_view self.new)) }
         ensures fault { OnErr result (worker_view self.new ≡ worker_view self.old) }
     {
         if self.has_request() {
             return Ok(Fed {
                 count: 0,
                 judgements: Vec::new(self.alloc),
-                closes: false,
+                ended: None,
             });
         }
         let count = self.client.lacks().min(bytes.len());
@@ -170,7 +170,7 @@ impl Worker {
             return Ok(Fed {
                 count,
                 judgements: Vec::new(self.alloc),
-                closes: false,
+                ended: None,
             });
         }
         let fed = self.client.feed(&bytes[..count])?;
@@ -178,7 +178,7 @@ impl Worker {
         Ok(Fed {
             count,
             judgements: fed.judgements,
-            closes: fed.broken,
+            ended: fed.ended,
         })
     }
 

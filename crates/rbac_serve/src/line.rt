@@ -134,7 +134,7 @@ impl<T: Stream> Line<T> {
     // Has a piece judged, in which at most one response is complete.
     fn judge<S: Service>(&mut self, service: &mut S, moment: &Moment) -> Step {
         let Some(rest) = self.read.get(self.at..) else {
-            return Step::Lost(Loss::Broken);
+            return Step::Lost(Loss::Reset);
         };
         match service.feed(rest) {
             Ok(taken) => {
@@ -153,9 +153,9 @@ impl<T: Stream> Line<T> {
                 self.paused = moment.now.saturating_add(moment.settings.nack_pause);
             }
         }
-        if taken.closes {
+        if let Some(ended) = taken.ended {
             let _ = service.send_request(&mut self.stream);
-            return Step::Lost(Loss::Broken);
+            return Step::Lost(Loss::Ended(ended));
         }
         match taken.response {
             Some(_) => Step::Judged,

@@ -1,6 +1,7 @@
 //! What a server needs: streams, and what serves them.
 
 use crate::outbox::Sent;
+use ads::Ended;
 use attributes::Conn;
 use std::alloc::AllocError;
 use std::io::{self, Read, Write};
@@ -57,8 +58,8 @@ pub struct Taken {
     pub count: usize,
     /// The judgement of a response, if one is complete.
     pub response: Option<Judged>,
-    /// Whether the stream is to be closed once the answer was sent.
-    pub closes: bool,
+    /// Why the stream is to be closed once the answer was sent.
+    pub ended: Option<Ended>,
 }
 
 /// The judgement of a response.
@@ -77,8 +78,8 @@ pub enum Loss {
     Closed,
     /// It failed.
     Reset,
-    /// Its bytes are no frames, or a message is no response.
-    Broken,
+    /// Its bytes ended it, for this reason.
+    Ended(Ended),
     /// The other end speaks HTTP/2.
     Http2,
     /// The other end speaks TLS.

@@ -1,6 +1,6 @@
 //! The results of a worker's calls.
 
-use ads::Judgement;
+use ads::{Ended, Judgement};
 use proxy_core::Told;
 
 /// The result of bytes of a connection.
@@ -19,6 +19,6 @@ pub struct Fed {
     pub count: usize,
     /// The judgement of the response that they complete; none if they complete none.
     pub judgements: Vec<Judgement>,
-    /// Whether the stream is to be closed once the answer was sent.
-    pub closes: bool,
+    /// Why the stream is to be closed once the answer was sent. None if it goes on, or none is up.
+    pub ended: Option<Ended>,
 }

@@ -49,7 +49,7 @@ impl Service for Worker {
         Ok(Taken {
             count: fed.count,
             response: fed.judgements.last().map(judged),
-            closes: fed.closes,
+            ended: fed.ended,
         })
     }
 

@@ -5,7 +5,7 @@ use crate::log_lines::{
     End, StreamEvent, connection_value, judgement_value, request_value, response_value,
     stream_value,
 };
-use ads::{Client, Judgement, Replied};
+use ads::{Client, Ended, Judgement, Replied};
 use program_texts::write_whole;
 use serde_json::Value;
 use std::alloc::Global;
@@ -20,6 +20,8 @@ const MOST_MESSAGE: usize = 1_048_576;
 pub struct Log<W: Drop> {
     alloc: Global,
     writer: Option<W>,
+    /// Why a proxy's client ended its stream, if it did.
+    ended: Option<Ended>,
     /// The bytes that a control plane received on its stream; None once memory ran out for them.
     heard: Option<Frames>,
     connections: u64,
@@ -31,6 +33,7 @@ impl<W: Write + Drop> Log<W> {
         Log {
             alloc,
             writer,
+            ended: None,
             heard: Some(Frames::new(alloc, MOST_MESSAGE)),
             connections: 0,
         }
@@ -41,11 +44,12 @@ impl<W: Write + Drop> Log<W> {
         self.writer
     }
 
-    /// Logs that the update stream came up, was unreachable, or was lost.
+    /// Logs that the update stream came up, was unreachable, or was lost. If the client ended it, says why.
     pub(crate) fn tell_stream(&mut self, event: StreamEvent) {
         self.heard = Some(Frames::new(self.alloc, MOST_MESSAGE));
+        let ended = self.ended.take();
         if self.writer.is_some() {
-            if let Ok(value) = stream_value(self.alloc, event) {
+            if let Ok(value) = stream_value(self.alloc, event, ended) {
                 self.tell(&value);
             }
         }
@@ -72,8 +76,15 @@ impl<W: Write + Drop> Log<W> {
         }
     }
 
-    /// Logs how a proxy's client judged the responses that it received.
-    pub(crate) fn tell_judgements(&mut self, judgements: Vec<Judgement>, client: &Client) {
+    /// Logs how a proxy's client judged the responses that it received. If it ended the stream, the line on that tells
+    /// why.
+    pub(crate) fn tell_judgements(
+        &mut self,
+        judgements: Vec<Judgement>,
+        ended: Option<Ended>,
+        client: &Client,
+    ) {
+        self.ended = ended;
         if self.writer.is_none() {
             return;
         }

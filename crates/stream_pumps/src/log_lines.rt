@@ -1,7 +1,7 @@
 //! The lines of a log, as JSON objects. No contract describes them.
 
-use ads::{Client, Judgement, Outcome, Refused};
-use fault_texts::fault_of;
+use ads::{Client, Ended, Judgement, Outcome, Refused};
+use fault_texts::{StreamEnd, fault_of};
 use proto_wire::Refusal;
 use serde_json::{Value, json};
 use std::alloc::{AllocError, Global};
@@ -27,14 +27,22 @@ pub(crate) enum StreamEvent {
     Lost,
 }
 
-/// The line for what happened to an update stream.
-pub(crate) fn stream_value(alloc: Global, event: StreamEvent) -> Result<Value, AllocError> {
+/// The line for what happened to an update stream, and why the client ended it, if it did.
+pub(crate) fn stream_value(
+    alloc: Global,
+    event: StreamEvent,
+    ended: Option<Ended>,
+) -> Result<Value, AllocError> {
     let word = match event {
         StreamEvent::Up => "up",
         StreamEvent::Unreachable => "unreachable",
         StreamEvent::Lost => "lost",
     };
-    json!(in alloc; {"stream": word})
+    let Some(ended) = ended else {
+        return json!(in alloc; {"stream": word});
+    };
+    let reason = StreamEnd(ended).to_string(alloc)?;
+    json!(in alloc; {"stream": word, "reason": reason})
 }
 
 /// The line for the end of the connection with this number, counted from 1.

@@ -202,8 +202,8 @@ fn update<W: Write, L: Write + Drop>(
         (ads_bytes bytes.now) result }
 {
     match proxy.hear_updates(bytes) {
-        Ok((output, judgements)) => {
-            log.tell_judgements(judgements, proxy.client());
+        Ok((output, judgements, ended)) => {
+            log.tell_judgements(judgements, ended, proxy.client());
             match write_whole(writer, &output.ads) {
                 Ok(()) => turn_of(&output.ads, output.ads_close),
                 Err(_) => Turn::Ended,

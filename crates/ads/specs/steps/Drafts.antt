@@ -9,6 +9,8 @@ use Rattle.rbac_policy.specs.declared.filter.Admitted.{Admitted}
 use Rattle.ads.specs.Config.{ConfigValue}
 use Rattle.ads.specs.Answer.{Accepted, AdmittedValue, replaced}
 use Rattle.ads.specs.Judgements.{IsJudgedAs}
+use Rattle.ads.specs.declared.ended.Ended.{Ended}
+use Rattle.ads.specs.declared.ended.Ended.TheVariants as ended
 use Rattle.ads.specs.declared.judgement.Judgement.{Judgement}
 use Rattle.ads.specs.Views.{policies_view}
 use Rattle.ads.specs.declared.accepted.Draft.{Draft}
@@ -38,10 +40,10 @@ AddsJudgement c response old before after = (reply : RequestMessage) × (j : Jud
     × AddsFrame reply before.replies.items after.replies.items
     × (after.judgements.items ≡ before.judgements.items ++ j ∷ [])
 
--- the message is not a response: nothing is appended or accepted
-abbrev pub IsNoResponse : List (Option AdmittedValue) → List ℕ → Draft → Draft → Type 0
-IsNoResponse old message before after = (e : Refusal) × ResponseFault message e
-    × (after.replies.items ≡ before.replies.items) × (after.judgements.items ≡ before.judgements.items)
+-- the message is not a response, for this reason: nothing is appended or accepted
+abbrev pub IsNoResponse : List (Option AdmittedValue) → List ℕ → Draft → Draft → Ended → Type 0
+IsNoResponse old message before after reason = (e : Refusal) × ResponseFault message e
+    × (reason ≡ ended.BadMessage e) × (after.replies.items ≡ before.replies.items) × (after.judgements.items ≡ before.judgements.items)
     × (draft_view old after ≡ draft_view old before)
 
 -- the message is a response, which is judged, and its answer is appended

@@ -1,5 +1,5 @@
 -- A stream that is up, as its reader of frames keeps it (this project's own).
-use Rattle.std.specs.Prelude.{◌≡◌, ℕ, Bool, true, false, List, []}
+use Rattle.std.specs.Prelude.{◌≡◌, ℕ, Bool, true, false, Option, Some, None, List, []}
 use Rattle.xds_wire.specs.Frames.{Tail, unfinished, broken}
 use Rattle.xds_wire.specs.Stream.{Kept, IsUnfinished}
 use Rattle.ads.specs.Client.{most_bytes}
@@ -15,7 +15,7 @@ pub record IsUp (kept : Kept) : Type 0 where
   pub taken : kept.messages ≡ []
   pub whole : IsUnfinished kept.tail
 
--- the flag is whether the frames are broken
-abbrev pub StreamIsBroken : Bool → Tail → Type 0
-StreamIsBroken is_faulty (unfinished rest) = is_faulty ≡ false
-StreamIsBroken is_faulty (broken fault) = is_faulty ≡ true
+-- the unfinished bytes of a stream, unless it ended
+abbrev pub kept_of : Bool → Tail → Option (List ℕ)
+kept_of false tail = Some (rest_of tail)
+kept_of true tail = None

@@ -15,9 +15,10 @@ returns-in_ok-answer_response-in-Ok-clause-answered c old = (
 
 pub returns-in-Err-clause-answered : goal.returns-in-Err-clause-answered
 returns-in-Err-clause-answered c old = (
-  c.in-Err.field-0,
-  read_fault (ResponseFault c.args.message.now) c.read_response.result c.in_ok-response.field-0 c.in-Err.field-0
+  c.in-Err.refusal,
+  read_fault (ResponseFault c.args.message.now) c.read_response.result c.in_ok-response.field-0 c.in-Err.refusal
       c.in_ok-response.ensures.found.0 c.in_ok-response.ensures.found.1 c.in-Err.is c.read_response.ensures.fault,
+  refl,
   refl,
   refl,
   refl,

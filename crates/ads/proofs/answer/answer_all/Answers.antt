@@ -1,25 +1,25 @@
 use Rattle.std.proofs.Common.{sym, ap, ◌∙◌}
 use Rattle.xds_wire.specs.Stream.{Kept}
 use Rattle.ads.specs.steps.Drafts.{draft_view}
-use Rattle.ads.proofs.AnswerLemmas.{goes_on_more, goes_on_end, goes_on_stop, told_no, told_yes}
+use Rattle.ads.proofs.AnswerLemmas.{goes_on_more, goes_on_end, goes_on_stop, told_none, told_some}
 use Rattle.ads.proofs.answer.answer_all.Goals as goal
 
-pub returns-then-not-branch-clause-answered : goal.returns-then-not-branch-clause-answered
-returns-then-not-branch-clause-answered c old =
-    let answered = told_no c.in_ok-answer.field-0 _ _ c.if-not-branch.true (c.in_ok-answer.ensures.answered old) in
+pub returns-in-Some-2-clause-answered : goal.returns-in-Some-2-clause-answered
+returns-in-Some-2-clause-answered c old =
+    let answered = told_some c.in_ok-reason.field-0 c.in-Some-2.reason _ _ c.in-Some-2.is (c.in_ok-reason.ensures.answered old) in
     let so_far = rw c.in-Some.ensures at c.loop-message.invariant.3 old in
     goes_on_stop c.args.config.now (draft_view old c.args.draft.now) c.args.frames.now.messages
     c.args.draft.now.replies.items c.args.draft.now.judgements.items old c.loop-message.draft c.answer.new.draft
-    c.in-Some.message c.next.new.self.messages so_far (rw c.as_slice.ensures at answered)
+    c.in-Some.message c.next.new.self.messages c.in-Some-2.reason so_far (rw c.as_slice.ensures at answered)
 
 pub loop-message-preserved : goal.loop-message-preserved
 loop-message-preserved c =
     let same = c.in-Some.ensures in (
-      c.in_ok-answer.ensures.covers,
+      c.in_ok-reason.ensures.covers,
       sym (ap (λ (k : Kept). k.max) same) ∙ c.loop-message.invariant.1,
       sym (ap (λ (k : Kept). k.tail) same) ∙ c.loop-message.invariant.2,
       λ old.
-          let answered = told_yes c.in_ok-answer.field-0 _ _ c.if-not-branch.false (c.in_ok-answer.ensures.answered old) in
+          let answered = told_none c.in_ok-reason.field-0 _ _ c.in_default-2.is (c.in_ok-reason.ensures.answered old) in
           goes_on_more c.args.config.now (draft_view old c.args.draft.now) c.args.frames.now.messages
           c.args.draft.now.replies.items c.args.draft.now.judgements.items old c.loop-message.draft c.answer.new.draft
           c.in-Some.message c.next.new.self.messages (rw c.in-Some.ensures at c.loop-message.invariant.3 old)

@@ -6,7 +6,8 @@ use Rattle.ads.specs.Views.{policies_view}
 use Rattle.ads.proofs.AdmittedLemmas.{merely_all}
 use Rattle.ads.proofs.AnswerLemmas.{told_no, told_yes}
 use Rattle.ads.proofs.JudgementLemmas.{judged_answered}
-use Rattle.ads.proofs.StreamLemmas.{fed_stream, none_of, part_answered, part_told, told_stream}
+use Rattle.std.specs.Prelude.{is_some}
+use Rattle.ads.proofs.StreamLemmas.{ends_if, fed_stream, part_answered, part_told, told_stream}
 use Rattle.ads.proofs.client.Client.feed.Goals as goal
 
 pub invariant_of-self-2-clause-admitted : goal.invariant_of-self-2-clause-admitted
@@ -18,7 +19,7 @@ invariant_of-self-2-clause-admitted c =
     draft.replies.items (draft_view (policies_view old.policies.items) draft) told.2 told.4 in
     rw (ap (λ (a : Accepted). a.policies) c.commit-replies.ensures.state)
     (merely_all c.args.self.now.config (state_view old) (draft_view (policies_view old.policies.items) draft)
-    told.0 draft.replies.items answered.0 told.2 answered.1 c.args.self.now.admitted)
+    told.0 draft.replies.items answered.0 (is_some told.2) answered.1 c.args.self.now.admitted)
 
 pub returns-then-branch-clause-found : goal.returns-then-branch-clause-found
 returns-then-branch-clause-found c =
@@ -45,10 +46,10 @@ returns-clause-found c =
     let answered = judged_answered c.args.self.now.config (state_view old) told.0 draft.judgements.items
     draft.replies.items (draft_view (policies_view old.policies.items) draft) told.2 told.4 in (
       answered.0,
-      fed_stream (client_view c.args.self.now) _ c.in-Some.stream c.args.bytes.now _ told.0 answered.0 told.1 told.2
-          c.commit-replies.result.0.items draft.replies.items c.is_none-broken.result
+      fed_stream (client_view c.args.self.now) _ c.in-Some.stream c.args.bytes.now _ told.0 answered.0 told.1
+          (is_some told.2) c.commit-replies.result.0.items draft.replies.items (is_some c.in_ok-draft.ended)
           c.in-Some.is cut answered.1 c.commit-replies.ensures.replies c.commit-replies.ensures.state told.5 refl
-          (none_of c.in_ok-draft.stream c.is_none-broken.result c.is_none-broken.ensures),
+          (ends_if told.2 told.1 c.in_ok-draft.ended c.in_ok-draft.stream told.6 told.5),
     )
 
 pub returns-clause-judged : goal.returns-clause-judged
@@ -59,4 +60,5 @@ returns-clause-judged c =
     let cut = rw kept.1 at told.3 in
     told_stream (client_view c.args.self.now) _ c.in-Some.stream c.args.bytes.now _ told.0 told.1 told.2
     c.commit-replies.result.0.items draft.replies.items c.commit-replies.result.1.items draft.judgements.items
-    c.in-Some.is cut told.4 c.commit-replies.ensures.replies c.commit-replies.ensures.judgements c.commit-replies.ensures.state
+    c.in_ok-draft.ended c.in-Some.is cut told.4 c.commit-replies.ensures.replies c.commit-replies.ensures.judgements
+    told.6 c.commit-replies.ensures.state
