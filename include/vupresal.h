@@ -30,8 +30,10 @@
  * null. A bool is 0 or 1. Nothing else matters: any message, head, text or number gets an answer. Where there is a limit of a length,
  * a greater one has its status before anything of that length is read; each function below says which.
  *
- * THREADS. A handle belongs to one thread: the one that first put something into it. No other thread may call anything with it, not
- * even the free. Each thread has handles of its own; they are independent. The library has no global state and no locks.
+ * THREADS. A handle may pass from thread to thread, and one call at a time has it. Whoever passes it on orders the two threads: by a
+ * lock, by the start or the join of a thread, or by a sequentially consistent atomic. Threads that decide by one filter have a handle
+ * each, which vupresal_filter_share makes; calls with different handles may run at the same time. The library has no global state and
+ * no locks; it counts the handles of a filter atomically.
  * A process of one thread may fork: the child has a copy of each handle. Not to be called from a signal handler, nor in the forked
  * child of a process with threads.
  */
@@ -253,8 +255,22 @@ uint64_t vupresal_filter_bound(vupresal_filter *filter);
  * Returns the bytes of the whole name; 0 if there is no such policy, or if its name is empty. */
 size_t vupresal_filter_policy_name(vupresal_filter *filter, uint64_t number, uint8_t *room, size_t length);
 
-/* Frees what the handle holds, and leaves it empty. */
+/* As vupresal_filter_share, which calls it; for two handles, not for one. */
+int32_t vupresal_filter_share_distinct(vupresal_filter *from, vupresal_filter *to);
+
+/* Frees what the handle holds, and leaves it empty. A filter that other handles share is freed with the last of them. */
 void vupresal_filter_free(vupresal_filter *filter);
+
+/* Puts the filter of `from` into `to` as well, in place of what that held. Nothing is copied: both handles then share one filter, and
+ * each may be used by another thread. If both are the same handle, it holds what it held.
+ *
+ * Status: VUPRESAL_OK; VUPRESAL_MEMORY; VUPRESAL_EMPTY if `from` is empty. After any but VUPRESAL_OK both hold what they held. */
+static inline int32_t vupresal_filter_share(vupresal_filter *from, vupresal_filter *to) {
+  vupresal_filter other = {NULL, false};
+  int32_t status = vupresal_filter_share_distinct(from, from == to ? &other : to);
+  vupresal_filter_free(&other);
+  return status;
+}
 
 /* --------------------------------------------------------------------------------------------------------- the core of a proxy */
 

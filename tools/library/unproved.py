@@ -3,6 +3,9 @@
 `rt try` compiles programs alone. So the crate becomes a program in a copy of the sources, whose `main` calls each export. A copy of
 the kit's folder, of links, has a `clang` of its own, which keeps the program's module. The module's exports are then made visible, and
 the kit's clang compiles it. It keeps the checks of `rt try`: each access to memory, each sum, each cast.
+
+By itself, `tools/library/unproved.py [--races] OBJECT` writes the object alone. With --races ThreadSanitizer sees each access of the
+library: link the object and the kit's c/liblibc_c.a into a program by `cc -fsanitize=thread`.
 """
 import os
 import pathlib
@@ -18,6 +21,8 @@ TOP = pathlib.Path(__file__).resolve().parent.parent.parent
 CALLS = pathlib.Path(__file__).with_name("calls.rt.text")
 # the constant of the crate that says whether the library is proved
 PROVED = "const IS_PROVED: bool = true;"
+# what the kit's clang calls of ThreadSanitizer, and older runtimes have under the names of the C library
+OF_LATER_RUNTIMES = ("memcpy", "memmove", "memset")
 # how often the folder is looked at, in seconds
 PAUSE = 0.2
 # keeps the module of the program, which is compiled with AddressSanitizer, and compiles all others
@@ -121,8 +126,8 @@ def exports():
     return {name: path.stem for path in sources for name in re.findall(r'pub extern "C" fn (\w+)', path.read_text())}
 
 
-def make_object(wanted):
-    """Writes the library's object to this file."""
+def make_object(wanted, sees_races=False):
+    """Writes the library's object to this file; one whose accesses ThreadSanitizer sees, if that is asked for."""
     kit = kit_folder()
     with tempfile.TemporaryDirectory(prefix="vupresal-") as folder:
         room = pathlib.Path(folder)
@@ -130,10 +135,16 @@ def make_object(wanted):
         shown = room / "shown.ll"
         compile_ir = [kit / "toolchain" / "bin" / "clang", "--no-default-config", "--target=x86_64-unknown-linux-gnu", "-x", "ir"]
         subprocess.run([*compile_ir, "-S", "-emit-llvm", "-Xclang", "-disable-llvm-passes", module, "-o", shown], check=True)
-        shown.write_text(exports_shown(shown.read_text(), exports()))
-        subprocess.run([*compile_ir, "-march=x86-64-v2", "-O3", "-fPIC", "-ffunction-sections", "-fdata-sections", "-c", shown, "-o",
-                        wanted], check=True)
+        text = exports_shown(shown.read_text(), exports())
+        flags = ["-O3"]
+        if sees_races:
+            text, flags = re.sub(r"(?m)^(attributes #\d+ = \{)", r"\1 sanitize_thread", text), ["-O1", "-fsanitize=thread"]
+        shown.write_text(text)
+        subprocess.run([*compile_ir, "-march=x86-64-v2", *flags, "-fPIC", "-ffunction-sections", "-fdata-sections", "-c", shown, "-o", wanted],
+                       check=True)
+        if sees_races:
+            subprocess.run(["objcopy", *(f"--redefine-sym=__tsan_{name}={name}" for name in OF_LATER_RUNTIMES), wanted], check=True)
 
 
 if __name__ == "__main__":
-    make_object(pathlib.Path(sys.argv[1]).resolve())
+    make_object(pathlib.Path(sys.argv[-1]).resolve(), "--races" in sys.argv[1:-1])

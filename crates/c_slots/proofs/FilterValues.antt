@@ -13,16 +13,14 @@ use denote.Struct.Owning.{shape}
 use Rattle.std.specs.declared.option.Option.{Option}
 use Rattle.std.specs.declared.option.Option.TheVariants.{None, Some}
 use Rattle.std.specs.contracts.alloc.Global as heap
-use Rattle.c_slots.specs.Owns.{slot_owns}
-use Rattle.rbac_policy.specs.declared.filter.Admitted.{Admitted}
-use Rattle.rbac_policy.specs.contracts.filter.Admitted as admitted
+use Rattle.c_slots.specs.Owns.{Owner, owner_row, slot_owns}
 use Rattle.c_slots.specs.contracts.filter_slot.FilterSlot as slot
 
 abbrev pub Z : RattleType
 Z = heap.the_row
 
 abbrev pub R : RattleType
-R = admitted.the_row
+R = owner_row
 
 abbrev pub Slot : RattleType
 Slot = slot.the_row
@@ -30,12 +28,12 @@ Slot = slot.the_row
 abbrev pub alone : Val → Val
 alone v = vstruct (vcons v vnil)
 
-pub is_some : (h : Option Admitted) → h ≢ None → (x : Admitted) × (h ≡ Some x)
+pub is_some : (h : Option Owner) → h ≢ None → (x : Owner) × (h ≡ Some x)
 is_some None ne = absurd (ne refl)
 is_some (Some x) ne = (x, refl)
 
 module _ {M : Type 1} {𝓤 : Ura M} {𝓛 : Logic 𝓤} {K : Type 0} {Γ : List (Item 𝓤)} {G : Goal 𝓤 𝓛.H} where
-  pub slot_in : K → (p : Ptr) (h : Option Admitted)
+  pub slot_in : K → (p : Ptr) (h : Option Owner)
       → Step K 𝓛 (‵ (Slot.own_val (record { at = p; held = h }) (alone (ptr_val p) ∷ [])) ∷ Γ) G (‵ (slot_owns p h) ∷ Γ) G
   slot_in t p h = step (λ s. let v : Val = alone (ptr_val p) in
       nothing t $ feq_i t (List Val) (ptr_val p ∷ []) (ptr_val p ∷ []) refl $ fjoin t $ feq_i t (List Val) (v ∷ []) (v ∷ []) refl $ fjoin t $

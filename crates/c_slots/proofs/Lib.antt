@@ -1,2 +1,4 @@
+pub mod CoreCrossing
+pub mod Crossing
 pub mod FilterValues
 pub mod ProxyValues

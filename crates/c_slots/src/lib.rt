@@ -2,6 +2,7 @@
 #![tactic(auto)]
 
 mod filter_slot;
+pub mod laws;
 mod proxy_slot;
 
 pub use filter_slot::FilterSlot;

@@ -31,6 +31,9 @@ impl Model for ProxySlot {
     ghost also_owns = { λ s. core_owns s.at s.held };
 }
 
+// Any thread may have a slot.
+unsafe impl Send for ProxySlot {}
+
 impl ProxySlot {
     /// An empty slot.
     pub fn empty() -> ProxySlot

@@ -1,5 +1,6 @@
 //! Admission of filters.
 
+ghost use Rattle.std.specs.Arc.{arc_value};
 ghost use Rattle.std.specs.Prelude.{◌≡◌, ◌≢◌, IfOk, IfErr, IsSomeAnd};
 ghost use Rattle.vupresal_c.specs.Admission.{AdmitFails, IsAdmission, fault_in};
 ghost use Rattle.vupresal_c.specs.Handles.{filter_in};
@@ -13,6 +14,7 @@ use c_inputs::{Bounds, limits_of};
 use proto_wire::Fault as Placed;
 use rbac_policy::{Admitted, admit_at, place_of_fault};
 use std::alloc::{AllocFailed, Global};
+use std::sync::Arc;
 
 /// The greatest budget, in steps.
 const MOST_BUDGET: u64 = 100_000_000;
@@ -37,9 +39,9 @@ pub extern "C" fn vupresal_filter_admit(
     ensures kept { result ≢ done → filter_in filter.new ≡ filter_in filter.old }
 {
     match admitted(alloc, message, bounds, budget) {
-        Ok(admitted) => {
+        Ok(owner) => {
             drop(filter.take(alloc));
-            filter.put(admitted);
+            filter.put(owner);
             copy_text("", place);
             OK
         }
@@ -103,15 +105,15 @@ impl<T: Drop> From<AllocFailed<T>> for NotAdmitted {
     }
 }
 
-/// The filter of a message, in a box.
+/// The first owner of the filter of a message, in a box.
 fn admitted(
     alloc: Global,
     message: &[u8],
     bounds: &Bounds,
     budget: u64,
-) -> Result<Box<Admitted>, NotAdmitted>
-    ensures found { IfOk result (λ admitted.
-        IsAdmission message.now bounds.now budget admitted.value) }
+) -> Result<Box<Arc<Admitted>>, NotAdmitted>
+    ensures found { IfOk result (λ owner.
+        IsAdmission message.now bounds.now budget (arc_value owner.value)) }
     ensures fault { IfErr result (λ e. AdmitFails message.now bounds.now budget (fault_in e)) }
 {
     let Some(limits) = limits_of(bounds) else {
@@ -121,5 +123,6 @@ fn admitted(
         return Err(NotAdmitted::OutOfRange);
     }
     let admitted = admit_at(alloc, message, &limits, budget)?;
-    Ok(Box::new(alloc, admitted)?)
+    let owner = Arc::new(alloc, admitted)?;
+    Ok(Box::new(alloc, owner)?)
 }

@@ -34,9 +34,9 @@ pub extern "C" fn vupresal_filter_decide_head(
     ensures kept { filter_in filter.new ≡ filter_in filter.old }
 {
     match filter.take(alloc) {
-        Some(admitted) => {
-            let answer = decide_head(alloc, &admitted, head, facts);
-            filter.put(admitted);
+        Some(owner) => {
+            let answer = decide_head(alloc, &owner, head, facts);
+            filter.put(owner);
             answered(answer, decision)
         }
         None => answered(Err(Fault::Empty), decision),

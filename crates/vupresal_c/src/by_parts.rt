@@ -38,9 +38,9 @@ pub extern "C" fn vupresal_filter_decide(
     ensures kept { filter_in filter.new ≡ filter_in filter.old }
 {
     match filter.take(alloc) {
-        Some(admitted) => {
-            let answer = decide_parts(alloc, &admitted, request, facts);
-            filter.put(admitted);
+        Some(owner) => {
+            let answer = decide_parts(alloc, &owner, request, facts);
+            filter.put(owner);
             answered(answer, decision)
         }
         None => answered(Err(Fault::Empty), decision),

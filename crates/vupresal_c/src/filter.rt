@@ -1,5 +1,6 @@
 //! The handle of a filter, in C's memory.
 
+ghost use Rattle.std.specs.Arc.{arc_value};
 ghost use Rattle.std.specs.Prelude.{◌≡◌, ◌≢◌, None, Some, MatchOption, true, false};
 
 use c_slots::FilterSlot;
@@ -7,6 +8,7 @@ use loose::Loose;
 use rbac_policy::Admitted;
 use std::alloc::Global;
 use std::mem;
+use std::sync::Arc;
 
 /// A filter's handle. C sets all its bytes to 0 before its first use.
 #[repr(C)]
@@ -30,10 +32,10 @@ impl Filter {
         }
     }
 
-    /// Takes the filter out of the handle.
-    pub(crate) fn take(&mut self, alloc: Global) -> Option<Box<Admitted>>
+    /// Takes the owner of the filter out of the handle.
+    pub(crate) fn take(&mut self, alloc: Global) -> Option<Box<Arc<Admitted>>>
         ensures taken { MatchOption result (filter_in self.old ≡ None)
-            (λ admitted. filter_in self.old ≡ Some admitted.value) }
+            (λ owner. filter_in self.old ≡ Some (arc_value owner.value)) }
         ensures left { filter_in self.new ≡ None }
     {
         let Filter { slot, held } = mem::replace(self, Filter::empty());
@@ -44,12 +46,12 @@ impl Filter {
         }
     }
 
-    /// Puts a filter into the handle, which is empty.
-    pub(crate) fn put(&mut self, admitted: Box<Admitted>)
-        ensures { filter_in self.new ≡ Some admitted.value }
+    /// Puts the owner of a filter into the handle, which is empty.
+    pub(crate) fn put(&mut self, owner: Box<Arc<Admitted>>)
+        ensures { filter_in self.new ≡ Some (arc_value owner.value) }
     {
         *self = Filter {
-            slot: FilterSlot::of(Loose::of(admitted)),
+            slot: FilterSlot::of(Loose::of(owner)),
             held: true,
         };
     }

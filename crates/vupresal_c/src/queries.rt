@@ -16,11 +16,11 @@ pub extern "C" fn vupresal_filter_policies(alloc: Global, filter: &mut Filter) -
     ensures count { result ≡ policies_in (filter_in filter.old) }
     ensures kept { filter_in filter.new ≡ filter_in filter.old }
 {
-    let Some(admitted) = filter.take(alloc) else {
+    let Some(owner) = filter.take(alloc) else {
         return 0;
     };
-    let count = admitted.policies();
-    filter.put(admitted);
+    let count = owner.policies();
+    filter.put(owner);
     count
 }
 
@@ -30,11 +30,11 @@ pub extern "C" fn vupresal_filter_bound(alloc: Global, filter: &mut Filter) -> u
     ensures bound { result ≡ bound_in (filter_in filter.old) }
     ensures kept { filter_in filter.new ≡ filter_in filter.old }
 {
-    let Some(admitted) = filter.take(alloc) else {
+    let Some(owner) = filter.take(alloc) else {
         return 0;
     };
-    let bound = admitted.bound();
-    filter.put(admitted);
+    let bound = owner.bound();
+    filter.put(owner);
     bound
 }
 
@@ -51,11 +51,11 @@ pub extern "C" fn vupresal_filter_policy_name(
     ensures filled { room.new ≡ filled (name_in (filter_in filter.old) number) room.old }
     ensures kept { filter_in filter.new ≡ filter_in filter.old }
 {
-    let Some(admitted) = filter.take(alloc) else {
+    let Some(owner) = filter.take(alloc) else {
         return copy(b"", room);
     };
-    let length = copy_name(&admitted, number as usize, room);
-    filter.put(admitted);
+    let length = copy_name(&owner, number as usize, room);
+    filter.put(owner);
     length
 }
 

@@ -1,7 +1,6 @@
 // Package vupresal decides on requests by Envoy's RBAC filters, with the library of include/vupresal.h.
 //
-// A Filter may be asked by any goroutine. Inside, each of its workers has a thread of its own, since the library's handles
-// belong to the thread that made them.
+// A Filter may be asked by any goroutine. Inside, it has a handle for each decision at a time; the handles share one filter.
 package vupresal
 
 // #cgo pkg-config: vupresal
@@ -69,7 +68,7 @@ type Decision struct {
 type Options struct {
 	// Budget is the most steps that the conditions may take for one request: 1,000,000 by default.
 	Budget uint64
-	// Workers is the number of threads that decide: as many as GOMAXPROCS by default.
+	// Workers is the number of decisions at a time: as many as GOMAXPROCS by default.
 	Workers int
 }
 
@@ -89,21 +88,10 @@ func LibraryVersion() Version {
 
 // A Filter is an admitted filter.
 type Filter struct {
-	jobs   chan job
-	closed chan struct{}
-	once   sync.Once
-	ended  sync.WaitGroup
-}
-
-type job struct {
-	request *Request
-	facts   *Facts
-	answer  chan<- answer
-}
-
-type answer struct {
-	decision Decision
-	err      error
+	// the handles that no call has
+	handles chan *C.vupresal_filter
+	closed  chan struct{}
+	once    sync.Once
 }
 
 // Admit admits the message of an HTTP RBAC filter. The error is a *Refusal if the message is at fault.
@@ -117,63 +105,41 @@ func Admit(message []byte, options Options) (*Filter, error) {
 	if options.Workers <= 0 {
 		options.Workers = runtime.GOMAXPROCS(0)
 	}
-	filter := &Filter{jobs: make(chan job), closed: make(chan struct{})}
-	ready := make(chan error, options.Workers)
-	filter.ended.Add(options.Workers)
-	for i := 0; i < options.Workers; i++ {
-		go filter.work(message, options.Budget, ready)
+	filter := &Filter{handles: make(chan *C.vupresal_filter, options.Workers), closed: make(chan struct{})}
+	handles := make([]C.vupresal_filter, options.Workers)
+	for i := range handles {
+		filter.handles <- &handles[i]
 	}
-	var err error
-	for i := 0; i < options.Workers; i++ {
-		if failed := <-ready; failed != nil {
-			err = failed
-		}
-	}
-	if err != nil {
-		filter.Close()
+	if err := admit(&handles[0], message, options.Budget); err != nil {
 		return nil, err
+	}
+	for i := range handles[1:] {
+		if status := C.vupresal_filter_share(&handles[0], &handles[i+1]); status != C.VUPRESAL_OK {
+			filter.Close()
+			return nil, Status(status)
+		}
 	}
 	return filter, nil
 }
 
-// Close frees the filter. Decisions after it have the error ErrClosed.
+// Close waits for the decisions that were begun, and frees the filter. Decisions after it have the error ErrClosed.
 func (f *Filter) Close() {
-	f.once.Do(func() { close(f.closed) })
-	f.ended.Wait()
+	f.once.Do(func() {
+		close(f.closed)
+		for i := 0; i < cap(f.handles); i++ {
+			C.vupresal_filter_free(<-f.handles)
+		}
+	})
 }
 
 // Decide gives the decision on a request. Without an error the decision counts; with one it refuses.
 func (f *Filter) Decide(request *Request, facts *Facts) (Decision, error) {
-	result := make(chan answer, 1)
 	select {
-	case f.jobs <- job{request, facts, result}:
-		found := <-result
-		return found.decision, found.err
+	case handle := <-f.handles:
+		defer func() { f.handles <- handle }()
+		return decide(handle, request, facts)
 	case <-f.closed:
 		return Decision{}, ErrClosed
-	}
-}
-
-// work owns a handle, on a thread of its own.
-func (f *Filter) work(message []byte, budget uint64, ready chan<- error) {
-	defer f.ended.Done()
-	runtime.LockOSThread()
-	defer runtime.UnlockOSThread()
-	var handle C.vupresal_filter
-	defer C.vupresal_filter_free(&handle)
-	err := admit(&handle, message, budget)
-	ready <- err
-	if err != nil {
-		return
-	}
-	for {
-		select {
-		case next := <-f.jobs:
-			decision, err := decide(&handle, next.request, next.facts)
-			next.answer <- answer{decision, err}
-		case <-f.closed:
-			return
-		}
 	}
 }
 

@@ -66,10 +66,23 @@ class Filters(unittest.TestCase):
         one.close()
         self.assertIsInstance(is_proved(), bool)
 
+    def test_shares(self) -> None:
+        one = Filter(example("condition.bin"))
+        other = one.share()
+        one.close()
+        one.close()
+        with self.assertRaises(Error) as raised:
+            one.share()
+        self.assertEqual(raised.exception.status, -1)
+        self.assertEqual((other.policies, other.decide("GET", "/", HOST)), (1, Decision(True, "readers")))
+        with other.share() as third:
+            other.close()
+            self.assertFalse(third.decide("GET", "/admin", HOST).allowed)
+
     def test_threads(self) -> None:
         one = Filter(example("condition.bin"))
-        with concurrent.futures.ThreadPoolExecutor(1) as other, self.assertRaises(RuntimeError):
-            other.submit(one.decide, "GET", "/", HOST).result()
+        with concurrent.futures.ThreadPoolExecutor(4) as pool:
+            self.assertEqual([it.allowed for it in pool.map(lambda _: one.decide("GET", "/", HOST), range(100))], [True] * 100)
         each = EachThread(example("condition.bin"))
         begun = threading.Barrier(4)
 

@@ -25,6 +25,10 @@ static inline void check_status(const char *file, int line, const char *what, in
 static const uint8_t plain[] = "GET / HTTP/1.1\r\nHost: h\r\n\r\n";
 enum { PLAIN_LENGTH = sizeof plain - 1 };
 
+/* A filter that lets all through. */
+static const uint8_t open_to_all[] = {0x0a, 0x0f, 0x12, 0x0d, 0x0a, 0x01, 'p',  0x12, 0x08,
+                                      0x0a, 0x02, 0x18, 0x01, 0x12, 0x02, 0x18, 0x01};
+
 /* The filter in a file. */
 static inline size_t message_of(const char *path, uint8_t *room, size_t size) {
   FILE *file = fopen(path, "rb");

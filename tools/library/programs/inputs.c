@@ -248,6 +248,41 @@ static void names(vupresal_filter *filter) {
   for (size_t at = 0; at < 4; at++) CHECK(vupresal_filter_policy_name(filter, others[at], room, sizeof room) == 0);
 }
 
+static bool passes_admin(vupresal_filter *filter) {
+  static const uint8_t admin[] = "GET /admin HTTP/1.1\r\nHost: h\r\n\r\n";
+  vupresal_decision decision = stale();
+  CHECK_STATUS(vupresal_filter_decide_head(filter, admin, sizeof admin - 1, &bare, &decision), VUPRESAL_OK);
+  return decision.is_allowed;
+}
+
+/* Handles that share a filter. */
+static void shares(vupresal_filter *filter) {
+  vupresal_filter none = {0}, first = {0}, second = {0};
+  CHECK_STATUS(vupresal_filter_share(&none, &first), VUPRESAL_EMPTY);
+  CHECK_STATUS(vupresal_filter_share(&none, &none), VUPRESAL_EMPTY);
+  CHECK_STATUS(vupresal_filter_share(filter, &first), VUPRESAL_OK);
+  CHECK(passes(filter) && passes(&first));
+  /* from an empty handle nothing comes, and nothing goes */
+  CHECK_STATUS(vupresal_filter_share(&none, &first), VUPRESAL_EMPTY);
+  CHECK(passes(&first) && !passes_admin(&first));
+  /* with itself, and with one that has it already */
+  CHECK_STATUS(vupresal_filter_share(&first, &first), VUPRESAL_OK);
+  CHECK_STATUS(vupresal_filter_share(filter, &first), VUPRESAL_OK);
+  CHECK(passes(filter) && passes(&first));
+  /* what the second handle held is freed; an admission into one handle leaves the other */
+  CHECK_STATUS(admit(&second, open_to_all, sizeof open_to_all), VUPRESAL_OK);
+  CHECK(passes_admin(&second));
+  CHECK_STATUS(vupresal_filter_share(&first, &second), VUPRESAL_OK);
+  CHECK(passes(&second) && !passes_admin(&second));
+  CHECK_STATUS(admit(&first, open_to_all, sizeof open_to_all), VUPRESAL_OK);
+  CHECK(passes_admin(&first) && !passes_admin(&second) && !passes_admin(filter));
+  vupresal_filter_free(&first);
+  CHECK(passes(filter) && passes(&second));
+  vupresal_filter_free(&second);
+  vupresal_filter_free(&second);
+  CHECK(passes(filter));
+}
+
 static void proxies(void) {
   vupresal_proxy proxy = {0};
   vupresal_given given = {7, 7, true, true};
@@ -343,6 +378,7 @@ int main(int count, char **words) {
   lengths(&filter);
   facts(&filter);
   names(&filter);
+  shares(&filter);
   proxies();
   CHECK(passes(&filter));
   /* a handle may be moved */

@@ -65,6 +65,16 @@ static int32_t ask(vupresal_filter *filter) {
   return VUPRESAL_OK;
 }
 
+static vupresal_filter other;
+
+/* Shares the filter with a handle that holds another one, which stays if memory runs out. */
+static int32_t share(vupresal_filter *filter) {
+  const uint64_t before = vupresal_filter_bound(&other);
+  int32_t status = vupresal_filter_share(filter, &other);
+  CHECK(vupresal_filter_bound(&other) == (status == VUPRESAL_OK ? vupresal_filter_bound(filter) : before));
+  return status;
+}
+
 /* Refuses each growth of the call; the filter stays. */
 static void try_filter(const char *name, int32_t call(vupresal_filter *), size_t fewest) {
   vupresal_filter filter = {0};
@@ -161,6 +171,9 @@ int main(int count, char **words) {
   try_filter("decide_head", by_head, 5);
   try_filter("decide", by_parts, 5);
   try_filter("queries", ask, 0);
+  CHECK_STATUS(vupresal_filter_admit(&other, open_to_all, sizeof open_to_all, &greatest, 1, NULL, 0), VUPRESAL_OK);
+  try_filter("share", share, 1);
+  vupresal_filter_free(&other);
   for (int at = NEW; at < STEPS; at++) try_proxy(at);
   puts("refused: all as wanted");
   return 0;

@@ -6,7 +6,8 @@
         decision = filter.decide("GET", "/about", [("host", "shop.example")], Facts(remote_ip="10.0.0.1"))
         if decision.allowed: ...
 
-A Filter belongs to the thread that made it. `EachThread` makes one for each thread.
+Any thread may ask a Filter; a lock lets one call at a time pass. `share` gives another Filter of the same message, and `EachThread` one
+to each thread, so that none waits.
 """
 
 from __future__ import annotations
@@ -113,18 +114,27 @@ def _bytes_of(text: Union[str, bytes]) -> _library.Bytes:
 
 
 class Filter:
-    """An admitted filter, on the thread that made it."""
+    """An admitted filter."""
 
     def __init__(self, message: bytes, budget: int = 1_000_000) -> None:
         """Admits the message of an HTTP RBAC filter; raises Refused if it is at fault. The budget is the most steps that its
         conditions may take for one request, 1 to 100,000,000."""
-        self._thread = threading.get_ident()
-        self._handle = _library.Handle()
+        self._lock, self._handle = threading.Lock(), _library.Handle()
         place = ctypes.create_string_buffer(512)
         status = _LIBRARY.vupresal_filter_admit(ctypes.byref(self._handle), message, len(message), ctypes.byref(_library.Bounds()), budget, place,
                                                 len(place))
         if status:
             raise Refused(status, place.value.decode())
+
+    def share(self) -> Filter:
+        """Another Filter of the same message, which is not admitted again. Raises Error if this one is closed."""
+        other = Filter.__new__(Filter)
+        other._lock, other._handle = threading.Lock(), _library.Handle()
+        with self._lock:
+            status = _LIBRARY.vupresal_filter_share_distinct(ctypes.byref(self._handle), ctypes.byref(other._handle))
+        if status:
+            raise Error(status)
+        return other
 
     def decide(self, method: str, target: str, lines: Lines, facts: Facts = Facts(), is_http11: bool = True) -> Decision:
         """The decision on a request by its parts. The host is a line `host` or `:authority`. Raises Error without a decision."""
@@ -137,36 +147,35 @@ class Filter:
         return self._decision(_LIBRARY.vupresal_filter_decide_head, head, len(head), facts=facts)
 
     def _decision(self, function, *request, facts: Facts) -> Decision:
-        handle, decision = self._mine(), _library.DecisionOutput()
-        status = function(handle, *request, ctypes.byref(facts._input()), ctypes.byref(decision))
-        if status:
-            raise Error(status)
-        return Decision(decision.is_allowed, self._name(decision.matched) if decision.is_matched else None)
+        handle, decision = ctypes.byref(self._handle), _library.DecisionOutput()
+        with self._lock:
+            status = function(handle, *request, ctypes.byref(facts._input()), ctypes.byref(decision))
+            if status:
+                raise Error(status)
+            return Decision(decision.is_allowed, self._name(decision.matched) if decision.is_matched else None)
 
     def _name(self, number: int) -> str:
-        size = _LIBRARY.vupresal_filter_policy_name(self._mine(), number, None, 0)
+        size = _LIBRARY.vupresal_filter_policy_name(ctypes.byref(self._handle), number, None, 0)
         room = ctypes.create_string_buffer(size + 1)
-        _LIBRARY.vupresal_filter_policy_name(self._mine(), number, room, size)
+        _LIBRARY.vupresal_filter_policy_name(ctypes.byref(self._handle), number, room, size)
         return room.raw[:size].decode()
 
     @property
     def policies(self) -> int:
         """The number of policies."""
-        return _LIBRARY.vupresal_filter_policies(self._mine())
+        with self._lock:
+            return _LIBRARY.vupresal_filter_policies(ctypes.byref(self._handle))
 
     @property
     def bound(self) -> int:
         """The most steps that the conditions together take for one request."""
-        return _LIBRARY.vupresal_filter_bound(self._mine())
+        with self._lock:
+            return _LIBRARY.vupresal_filter_bound(ctypes.byref(self._handle))
 
     def close(self) -> None:
-        """Frees the filter. It may be closed again."""
-        _LIBRARY.vupresal_filter_free(self._mine())
-
-    def _mine(self):
-        if threading.get_ident() != self._thread:
-            raise RuntimeError("a Filter belongs to the thread that made it; EachThread makes one for each")
-        return ctypes.byref(self._handle)
+        """Frees the filter, if no other one shares it. It may be closed again."""
+        with self._lock:
+            _LIBRARY.vupresal_filter_free(ctypes.byref(self._handle))
 
     def __enter__(self) -> Filter:
         return self
@@ -175,13 +184,19 @@ class Filter:
         self.close()
 
     def __del__(self) -> None:
-        # what another thread drops is not freed: it belongs to a thread that may be using it
-        if getattr(self, "_thread", None) == threading.get_ident():
+        if hasattr(self, "_handle"):
             self.close()
 
 
-class EachThread(threading.local):
-    """A filter for each thread that asks, admitted by that thread when it first does."""
+class EachThread:
+    """A filter that is admitted once, and shared with each thread when it first asks."""
 
     def __init__(self, message: bytes, budget: int = 1_000_000) -> None:
-        self.filter = Filter(message, budget)
+        self._first, self._own = Filter(message, budget), threading.local()
+
+    @property
+    def filter(self) -> Filter:
+        """The Filter of the thread that asks."""
+        if not hasattr(self._own, "filter"):
+            self._own.filter = self._first.share()
+        return self._own.filter

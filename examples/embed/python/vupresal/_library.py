@@ -71,6 +71,7 @@ def load() -> ctypes.CDLL:
         "filter_policies": (c_size_t, [POINTER(Handle)]),
         "filter_bound": (c_uint64, [POINTER(Handle)]),
         "filter_policy_name": (c_size_t, [POINTER(Handle), c_uint64, c_char_p, c_size_t]),
+        "filter_share_distinct": (c_int32, [POINTER(Handle), POINTER(Handle)]),
         "filter_free": (None, [POINTER(Handle)]),
     }
     for name, (result, arguments) in functions.items():

@@ -1,4 +1,5 @@
 use Rattle.std.proofs.Common.{rules, ◌≡◌, ◌∙◌, refl, sym, arith, to_z, of_z, to_z-of_z, w32}
+use Rattle.std.specs.Arc.{arc_value}
 use Rattle.c_inputs.specs.Facts.{facts_given}
 use Rattle.c_inputs.specs.Requests.{parts_given}
 use Rattle.vupresal_c.specs.Decisions.{AsksByParts, too_long}
@@ -15,12 +16,12 @@ pub returns-in-Some-clause-found : goal.returns-in-Some-clause-found
 returns-in-Some-clause-found c =
     let same : to_z w32 (of_z w32 c.answered.result) ≡ c.answered.result = search rules in
     λ is. rw c.in-Some.ensures.taken (decided c.decide_parts-answer.result
-    (AsksByParts (parts_given c.args.request.now) (facts_given c.args.facts.now)) c.in-Some.admitted.value _ _
-    c.answered.ensures.found c.answered.ensures.fault (rw c.deref.ensures at c.decide_parts-answer.ensures.found)
+    (AsksByParts (parts_given c.args.request.now) (facts_given c.args.facts.now)) (arc_value c.in-Some.owner.value) _ _
+    c.answered.ensures.found c.answered.ensures.fault (rw (c.deref-in-Some.ensures, c.deref.ensures) at c.decide_parts-answer.ensures.found)
     (sym same ∙ is))
 
 pub returns-in-Some-clause-long : goal.returns-in-Some-clause-long
 returns-in-Some-clause-long c =
     let same : to_z w32 (of_z w32 c.answered.result) ≡ c.answered.result = search rules in
     λ long. same ∙ told c.decide_parts-answer.result too_long _ _ c.answered.ensures.fault
-    (c.decide_parts-answer.ensures.long (rw (c.in-Some.ensures.taken, ← c.deref.ensures) at long))
+    (c.decide_parts-answer.ensures.long (rw (c.in-Some.ensures.taken, ← c.deref.ensures, ← c.deref-in-Some.ensures) at long))

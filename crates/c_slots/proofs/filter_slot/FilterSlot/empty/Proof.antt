@@ -29,12 +29,11 @@ use Rattle.c_slots.specs.contracts.filter_slot.FilterSlot.empty.Key.{name as #se
 use Rattle.c_slots.proofs.filter_slot.FilterSlot.empty.Statement.{statement}
 use Rattle.c_slots.proofs.filter_slot.FilterSlot.empty.Code as code
 use Rattle.std.specs.declared.option.Option.{Option}
-use Rattle.rbac_policy.specs.declared.filter.Admitted.{Admitted}
 use types.Run.{lit}
 use lib.Dec.{lit<}
-use Rattle.c_slots.specs.Owns.{slot_owns}
+use Rattle.c_slots.specs.Owns.{Owner, slot_owns}
 
-abbrev nothing_held : Option Admitted
+abbrev nothing_held : Option Owner
 nothing_held = None
 
 pub empty_spec : {M : Type 1} → statement M

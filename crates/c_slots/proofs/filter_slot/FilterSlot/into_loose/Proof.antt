@@ -32,8 +32,7 @@ use types.Logic.{sem}
 use denote.Memory.{lone}
 use denote.RawPtr.{Ptr, null_ptr, ptr_val, in_a_block}
 use Rattle.std_alloc.specs.Box.Ownership.{box_owns}
-use Rattle.c_slots.specs.Owns.{slot_owns, heap}
-use Rattle.rbac_policy.specs.declared.filter.Admitted.{Admitted}
+use Rattle.c_slots.specs.Owns.{Owner, slot_owns, heap}
 use Rattle.std.specs.declared.option.Option.{Option}
 use Rattle.c_slots.specs.contracts.filter_slot.FilterSlot.into_loose.{ended, clauses}
 use Rattle.c_slots.specs.contracts.filter_slot.FilterSlot.into_loose.Key.{name as #self}
@@ -48,7 +47,7 @@ into_loose_spec 𝓤 𝓛 𝓜 𝓡 wired =
     let d = z.0.3.0 in let a = z.0.3.1.0 in let Post : Val → SProp 𝓤 = (walk_of 𝓛 En hs c).post z in let Run : List Val → SProp 𝓤 = λ ws. WpFn 𝓤 H 𝓣.C 𝓣.Λ fn ws Post in
     qed 𝓛 ((‵ ftrue ⊛ ‵ (owns (types_at En.signature.params z.0.0) z.0.3 z.0.4)) ∷ raw (fact 𝓤 (d.held ≢ None)) ∷ []) ∵ move ! (1 ∷ []) $ heard ! (d.held ≢ None) (λ some_is. split ! $ move ! (1 ∷ []) $ fsplit ! $
     let s = is_some d.held some_is in let x = s.0 in let same : d.held ≡ Some x = s.1 in
-    slot_out ! d z.0.4.0 (λ ws. rewrite ! 0 (λ (h : Option Admitted). ‵ (slot_owns d.at h)) same refl $ move ! (1 ∷ []) $ fsplit ! $
+    slot_out ! d z.0.4.0 (λ ws. rewrite ! 0 (λ (h : Option Owner). ‵ (slot_owns d.at h)) same refl $ move ! (1 ∷ []) $ fsplit ! $
     handle_tells (record { row = Z; laws = LZ; g = ghosts; d = impl [] tnil dnil; drops = impl [] tnil dnil }) ! a z.0.4.1.0 (λ h ea fits. move ! (2 ∷ []) $
     in_a_block ! d.at (λ p. box_owns (ghosts.dealloc_token heap) R p x) (fst∗ 𝓤 (never 𝓤) (sem 𝓛 (ghosts.dealloc_token heap (bare (lone R.mir)) null_ptr))) (λ b o e.
     let w : Val = alone (vptr b o) in let typed = loose_good R Z LZ ghosts b o h fits in let lies : z.0.4.0 ≡ w ∷ [] = subst (λ (p : Ptr). z.0.4.0 ≡ alone (ptr_val p) ∷ []) e ws in
