@@ -1,0 +1,3 @@
+pub mod TakenAsks
+pub mod CutPieces
+pub mod Meaning
