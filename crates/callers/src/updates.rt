@@ -27,7 +27,7 @@ pub fn take_updates<W: Write>(
 {
     let fed = client.feed(bytes)?;
     let sent = out.write_all(&fed.replies);
-    if sent.is_ok() && !fed.broken {
+    if sent.is_ok() && fed.ended.is_none() {
         return Ok(true);
     }
     client.lost();
