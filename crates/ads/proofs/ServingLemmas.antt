@@ -1,17 +1,24 @@
 -- The serving of messages, one after the other, and of the resources that are asked for.
-use Rattle.std.proofs.Common.{◌≡◌, inl, inr, ℕ, zero, suc, ◌+◌, ◌-◌, ◌<◌, ◌≤◌, arith, Option, Some, None, Bool, true, false, List, [], ◌∷◌, ◌++◌, length, map, take, get_or, refl, ap, sym, ◌∙◌, append_assoc, append-nil, bytes_eq, decimal, if◌then◌else◌}
+use Rattle.std.proofs.Common.{◌≡◌, inl, inr, ℕ, zero, suc, ◌+◌, ◌-◌, ◌<◌, ◌≤◌, ◌==◌, arith, Option, Some, None, Bool, true, false, List, [], ◌∷◌, ◌++◌, length, map, take, get_or, refl, ap, sym, ◌∙◌, append_assoc, append-nil, bytes_eq, decimal, if◌then◌else◌}
 use Rattle.std.specs.List.{AllZip, HoldsAt, list_any}
-use Rattle.std.specs.Prelude.{MatchOption, IfSome}
+use Rattle.std.specs.Prelude.{MatchOption, IfSome, is_some}
+use Rattle.std.specs.String.{string_bytes}
 use Rattle.std.specs.Borrow.{Bor}
 use Rattle.std.proofs.lemmas.List.{map_more, map-append, length-append, length-map}
+use Rattle.std.proofs.lemmas.Bool.{eqb-false, eqb-true}
+use Rattle.xds_wire.specs.Frames.{frame_of}
 use Rattle.xds_wire.specs.Discovery.{RequestMessage, ResponseMessage}
 use Rattle.xds_wire.specs.Written.{ExtensionWritten, ResponseWritten}
-use Rattle.ads.specs.Control.{ResourceValue, ServedValue, AreServed, IsFirst, IsAck, IsNack, Sends, Advances, recorded, first, ack, nack, IsSnapshot, IsSentAs, IsResponseOf, asked, extension_of}
+use Rattle.ads.specs.Control.{ResourceValue, ServedValue, AreServed, IsFirst, IsAck, IsNack, Sends, sent, too_long, too_many, sent_one, Advances, at_last, next, advanced, recorded, Serves, first, ack, nack, ignored, IsSnapshot, IsSentAs, IsResponseOf, asked, extension_of}
+use Rattle.ads.specs.Exchanges.{AreExchanged, IsExchange, IsSentFor, Says}
+use Rattle.ads.specs.declared.ended.Ended.{Ended}
+use Rattle.ads.specs.declared.exchange.Exchange.{Exchange}
+use Rattle.ads.specs.declared.serving.Serving.{Serving}
 use Rattle.ads.specs.Answer.{extension_type}
 use Rattle.ads.specs.declared.snapshot.Resource.{Resource}
 use Rattle.ads.specs.declared.snapshot.Snapshot.{Snapshot}
-use Rattle.ads.specs.Views.{resource_view, snapshot_view, snapshots_view}
-use Rattle.ads.specs.steps.Serving.{any_of, AddsReplies, IsServed, ResponseIsOf, MessageIsServed, a_request, no_request}
+use Rattle.ads.specs.Views.{resource_view, served_view, snapshot_view, snapshots_view}
+use Rattle.ads.specs.steps.Serving.{any_of, AddsReplies, IsServed, ResponseIsOf, MessageIsServed, a_request, no_request, sent_since}
 use Rattle.ads.proofs.Lists.{zip_push}
 
 -- whether the resource is asked for
@@ -138,67 +145,219 @@ no_bytes [] none = refl
 no_bytes (b ∷ bytes) none = absurd (omega (arith, none))
 
 -- what holds of the messages so far: whatever the others are served, all are served so
-abbrev pub GoesOn : List (List ResourceValue) → ServedValue → List (List ℕ) → List ℕ → ServedValue
-    → List (List ℕ) → List ℕ → Type 0
-GoesOn snapshots start all before now rest after = (done numbers : List ℕ) × (after ≡ before ++ done)
-    × ((more later : List ℕ) (new : ServedValue) (ends : Bool)
-    → AreServed snapshots now rest more later new ends
-    → AreServed snapshots start all (done ++ more) (numbers ++ later) new ends)
-
--- all messages are served, and the replies stand behind those that were there
-abbrev pub AllServed : List (List ResourceValue) → ServedValue → List (List ℕ) → List ℕ → ServedValue → List ℕ
-    → Bool → Type 0
-AllServed snapshots start all before new after ends = (numbers : List ℕ) × ((replies : List ℕ)
-    × AreServed snapshots start all replies numbers new ends × (after ≡ before ++ replies))
+abbrev pub GoesOn : List (List ResourceValue) → ServedValue → List (List ℕ) → List ℕ → List Exchange → ServedValue
+    → List (List ℕ) → List ℕ → List Exchange → Type 0
+GoesOn snapshots start all before told now rest after later =
+    (done numbers : List ℕ) × (added : List Exchange) × (after ≡ before ++ done) × (later ≡ told ++ added)
+    × ((others : List Exchange) (more nums : List ℕ) (new : ServedValue) (reason : Option Ended)
+    → AreExchanged snapshots now rest others more nums new reason
+    → AreExchanged snapshots start all (added ++ others) (done ++ more) (numbers ++ nums) new reason)
 
 module _ (snapshots : List (List ResourceValue)) (start : ServedValue) (all : List (List ℕ)) (before : List ℕ)
+    (told : List Exchange) where
+  pub goes_on_from : GoesOn snapshots start all before told start all before told
+  goes_on_from =
+      ([], [], [], sym (append-nil before), sym (append-nil told), λ others more nums new reason is. is)
+
+  -- all messages are served, and the replies and the exchanges stand behind those that were there
+  abbrev pub AllExchanged : Serving → Option Ended → Type 0
+  AllExchanged now reason = (exchanges : List Exchange) × (replies numbers : List ℕ)
+      × AreExchanged snapshots start all exchanges replies numbers (served_view now.served) reason
+      × (now.exchanges.items ≡ told ++ exchanges) × (now.replies.items ≡ before ++ replies)
+
+  -- what holds of the messages so far, as the draft has it
+  abbrev pub SoFar : Serving → List (List ℕ) → Type 0
+  SoFar now rest =
+      GoesOn snapshots start all before told (served_view now.served) rest now.replies.items now.exchanges.items
+
+  -- one message more is served
+  pub goes_on_more : (now new : Serving) (message : List ℕ) (rest : List (List ℕ)) → SoFar now (message ∷ rest)
+      → MessageIsServed snapshots message now new None → SoFar new rest
+  goes_on_more now new message rest (done, numbers, added, so_far, told_so, whole)
+      (a_request request reads (replies, nums, x, serves, is, grown, pushed)) = (
+        done ++ replies,
+        numbers ++ nums,
+        added ++ x ∷ [],
+        grown ∙ ap (λ xs. xs ++ replies) so_far ∙ append_assoc before done replies,
+        pushed ∙ ap (λ xs. xs ++ x ∷ []) told_so ∙ append_assoc told added (x ∷ []),
+        λ others more later last reason rest'.
+            rw (append_assoc done replies more, append_assoc numbers nums later, append_assoc added (x ∷ []) others)
+            (whole (x ∷ others) (replies ++ more) (nums ++ later) last reason
+            (inr (inr (
+              request,
+              x,
+              others,
+              replies,
+              more,
+              nums,
+              later,
+              served_view new.served,
+              reads,
+              serves,
+              is,
+              refl,
+              refl,
+              refl,
+              rest',
+            )))),
+      )
+  goes_on_more now new message rest so_far (no_request e fault is same) = absurd cc
+
+  -- no message is left
+  pub goes_on_end : (now : Serving) → SoFar now [] → AllExchanged now None
+  goes_on_end now (done, numbers, added, so_far, told_so, whole) = (
+    added,
+    done,
+    numbers,
+    rw (append-nil done, append-nil numbers, append-nil added) at
+        (whole [] [] [] (served_view now.served) None (refl, refl, refl, refl, refl)),
+    told_so,
+    so_far,
+  )
+
+  -- a message ends the stream
+  pub goes_on_stop : (now new : Serving) (message : List ℕ) (rest : List (List ℕ)) (reason : Ended)
+      → SoFar now (message ∷ rest) → MessageIsServed snapshots message now new (Some reason)
+      → AllExchanged new (Some reason)
+  goes_on_stop now new message rest reason (done, numbers, added, so_far, told_so, whole)
+      (a_request request reads ((replies, nums, x, serves, is, grown, pushed), why)) = (
+        added ++ x ∷ [],
+        done ++ replies,
+        numbers ++ nums,
+        whole (x ∷ []) replies nums (served_view new.served) (Some reason)
+            (inr (inl (request, x, reads, serves, is, refl, ap Some why))),
+        pushed ∙ ap (λ xs. xs ++ x ∷ []) told_so ∙ append_assoc told added (x ∷ []),
+        grown ∙ ap (λ xs. xs ++ replies) so_far ∙ append_assoc before done replies,
+      )
+  goes_on_stop now new message rest reason (done, numbers, added, so_far, told_so, whole)
+      (no_request e fault is same) = (
+        added,
+        done,
+        numbers,
+        rw (append-nil done, append-nil numbers, append-nil added) at
+            (whole [] [] [] (served_view new.served) (Some reason)
+            (inl ((e, fault, is), refl, refl, refl, ap (λ (s : Serving). served_view s.served) same))),
+        ap (λ (s : Serving). s.exchanges.items) same ∙ told_so,
+        ap (λ (s : Serving). s.replies.items) same ∙ so_far,
+      )
+
+-- what is told of the messages behind nothing
+pub from_exchanged : (snapshots : List (List ResourceValue)) (start : ServedValue) (ms : List (List ℕ))
+    (before : List ℕ) (told : List Exchange) (now : Serving) (reason : Option Ended) → before ≡ [] → told ≡ []
+    → AllExchanged snapshots start ms before told now reason
+    → (numbers : List ℕ)
+    × AreExchanged snapshots start ms now.exchanges.items now.replies.items numbers (served_view now.served) reason
+from_exchanged snapshots start ms before told now reason none empty (exchanges, replies, numbers, is, each, all) =
+    let sent : now.replies.items ≡ replies = all ∙ ap (λ xs. xs ++ replies) none in
+    let heard : now.exchanges.items ≡ exchanges = each ∙ ap (λ xs. xs ++ exchanges) empty in
+    (numbers, rw (sent, heard) is)
+
+-- ---- what was sent for a request
+
+since_same : (n : ℕ) (s : ServedValue) (replies : List ℕ) → s.sent ≡ n → replies ≡ []
+    → IsSentFor replies (sent_since n s)
+since_same n s replies same none = by (s.sent == n) refl
   where
-    pub goes_on_from : GoesOn snapshots start all before start all before
-    goes_on_from = ([], [], sym (append-nil before), λ more later new ends is. is)
+    by : (b : Bool) → s.sent == n ≡ b
+        → IsSentFor replies (if b then None else Some (record { snapshot = s.current; count = s.sent }))
+    by true is = none
+    by false is = absurd (eqb-false s.sent n is same)
 
-    -- one message more is served
-    pub goes_on_more : (now next : ServedValue) (message : List ℕ) (rest : List (List ℕ)) (after later : List ℕ)
-        → GoesOn snapshots start all before now (message ∷ rest) after
-        → MessageIsServed snapshots message now after later next false
-        → GoesOn snapshots start all before next rest later
-    goes_on_more now next message rest after later (done, numbers, so_far, whole)
-        (a_request request reads (told, (added, serves, grown))) = (
-          done ++ added,
-          numbers ++ told,
-          grown ∙ ap (λ xs. xs ++ added) so_far ∙ append_assoc before done added,
-          λ more others new ends is. rw (append_assoc done added more, append_assoc numbers told others)
-              (whole (added ++ more) (told ++ others) new ends
-              (inr (inr (request, added, more, told, others, next, reads, serves, refl, refl, is)))),
-        )
-    goes_on_more now next message rest after later (done, numbers, so_far, whole)
-        (no_request none same) = absurd cc
+since_more : (n : ℕ) (s : ServedValue) (replies message : List ℕ) (response : ResponseMessage) → s.sent ≡ n + 1
+    → ResponseWritten response message → replies ≡ frame_of message → response.version_info ≡ decimal s.current
+    → response.nonce ≡ decimal s.sent → IsSentFor replies (sent_since n s)
+since_more n s replies message response more written frame version nonce = by (s.sent == n) refl
+  where
+    by : (b : Bool) → s.sent == n ≡ b
+        → IsSentFor replies (if b then None else Some (record { snapshot = s.current; count = s.sent }))
+    by false is = (response, message, written, frame, version, nonce)
+    by true is = absurd (omega (arith, eqb-true s.sent n is, more))
 
-    -- no message is left
-    pub goes_on_end : (now : ServedValue) (after : List ℕ) → GoesOn snapshots start all before now [] after
-        → AllServed snapshots start all before now after false
-    goes_on_end now after (done, numbers, so_far, whole) = (
+sends_since : (snapshots : List (List ResourceValue)) (names : List (List ℕ)) (old new : ServedValue)
+    (replies : List ℕ) (ends : Bool) → Sends snapshots names old replies new ends
+    → IsSentFor replies (sent_since old.sent new)
+sends_since snapshots names old new replies ends (Sends.none none nothing same goes) =
+    since_same old.sent new replies (ap (λ (s : ServedValue). s.sent) same) nothing
+sends_since snapshots names old new replies ends (sent snapshot response message there few is written short frame same goes) =
+    rw same (since_more old.sent (sent_one old) replies message response refl written frame is.version is.nonce)
+sends_since snapshots names old new replies ends (too_long snapshot response message there few is written long nothing same stops) =
+    since_same old.sent new replies (ap (λ (s : ServedValue). s.sent) same) nothing
+sends_since snapshots names old new replies ends (too_many snapshot there many nothing same stops) =
+    since_same old.sent new replies (ap (λ (s : ServedValue). s.sent) same) nothing
+
+advances_since : (snapshots : List (List ResourceValue)) (names : List (List ℕ)) (old new : ServedValue)
+    (replies : List ℕ) (ends : Bool) → Advances snapshots names old replies new ends
+    → IsSentFor replies (sent_since old.sent new)
+advances_since snapshots names old new replies ends (at_last last nothing same goes) =
+    since_same old.sent new replies (ap (λ (s : ServedValue). s.sent) same) nothing
+advances_since snapshots names old new replies ends (next more sends) =
+    sends_since snapshots names (advanced old) new replies ends sends
+
+-- what was sent for a request is the response that its serving counted
+pub served_since : (snapshots : List (List ResourceValue)) (request : RequestMessage) (old new : ServedValue)
+    (replies numbers : List ℕ) (ends : Bool) → Serves snapshots request old replies numbers new ends
+    → IsSentFor replies (sent_since old.sent new)
+served_since snapshots request old new replies numbers ends (first is sends none) =
+    sends_since snapshots request.resource_names old new replies ends sends
+served_since snapshots request old new replies numbers ends (ack is advances one) =
+    advances_since snapshots request.resource_names (recorded old) new replies ends advances
+served_since snapshots request old new replies numbers ends (nack is advances none) =
+    advances_since snapshots request.resource_names old new replies ends advances
+served_since snapshots request old new replies numbers ends (ignored x y z nothing same goes none) =
+    since_same old.sent new replies (ap (λ (s : ServedValue). s.sent) same) nothing
+
+-- the exchange of a request that was served stands behind the others
+pub taken_so : (snapshots : List (List ResourceValue)) (request : RequestMessage) (old now : ServedValue)
+    (before after : List ℕ) (xs ys : List Exchange) (x : Exchange) (ends told : Bool) → told ≡ ends
+    → IsServed snapshots request old before after now told → string_bytes x.version ≡ request.version_info
+    → string_bytes x.nonce ≡ request.response_nonce → Says request x.word → x.sent ≡ sent_since old.sent now
+    → ys ≡ xs ++ x ∷ [] → (replies numbers : List ℕ) × (y : Exchange)
+    × Serves snapshots request old replies numbers now ends × IsExchange request replies y
+    × (after ≡ before ++ replies) × (ys ≡ xs ++ y ∷ [])
+taken_so snapshots request old now before after xs ys x ends told is (numbers, (added, serves, grown)) version nonce says
+    since pushed = (
+      added,
       numbers,
-      (done, rw (append-nil done, append-nil numbers) at (whole [] [] now false (refl, refl, refl, refl)), so_far),
+      x,
+      rw is at serves,
+      record {
+        version = version;
+        nonce = nonce;
+        says = says;
+        sent = rw since (served_since snapshots request old now added numbers told serves);
+      },
+      grown,
+      pushed,
     )
 
-    -- a message ends the stream
-    pub goes_on_stop : (now next : ServedValue) (message : List ℕ) (rest : List (List ℕ)) (after later : List ℕ)
-        → GoesOn snapshots start all before now (message ∷ rest) after
-        → MessageIsServed snapshots message now after later next true
-        → AllServed snapshots start all before next later true
-    goes_on_stop now next message rest after later (done, numbers, so_far, whole)
-        (a_request request reads (told, (added, serves, grown))) = (
-          numbers ++ told,
-          (
-            done ++ added,
-            whole added told next true (inr (inl (request, reads, serves, refl))),
-            grown ∙ ap (λ xs. xs ++ added) so_far ∙ append_assoc before done added,
-          ),
-        )
-    goes_on_stop now next message rest after later (done, numbers, so_far, whole) (no_request none same) = (
-      numbers,
-      (done, rw (append-nil done, append-nil numbers) at (whole [] [] next true (inl none)), same ∙ so_far),
-    )
+-- the messages are served as they are told
+pub exchanged_served : (snapshots : List (List ResourceValue)) (old : ServedValue) (ms : List (List ℕ))
+    (xs : List Exchange) (replies numbers : List ℕ) (new : ServedValue) (reason : Option Ended)
+    → AreExchanged snapshots old ms xs replies numbers new reason
+    → AreServed snapshots old ms replies numbers new (is_some reason)
+exchanged_served snapshots old [] xs replies numbers new reason (none, nothing, empty, same, goes) =
+    (nothing, empty, same, ap (λ (o : Option Ended). is_some o) goes)
+exchanged_served snapshots old (m ∷ ms) xs replies numbers new reason
+    (inl ((e, fault, is), none, nothing, empty, same)) =
+    inl ((e, fault), nothing, empty, same, ap (λ (o : Option Ended). is_some o) is)
+exchanged_served snapshots old (m ∷ ms) xs replies numbers new reason
+    (inr (inl (request, x, reads, serves, is, one, why))) =
+    inr (inl (request, reads, serves, ap (λ (o : Option Ended). is_some o) why))
+exchanged_served snapshots old (m ∷ ms) xs replies numbers new reason
+    (inr (inr (request, x, others, head, more, now, later, between, reads, serves, is, told, all, nums, rest))) =
+    inr (inr (
+      request,
+      head,
+      more,
+      now,
+      later,
+      between,
+      reads,
+      serves,
+      all,
+      nums,
+      exchanged_served snapshots between ms others more later new reason rest,
+    ))
 
 -- a request is served by what it is, for the names that it asks for
 module _ (snapshots : List (List ResourceValue)) (request : RequestMessage) (old new : ServedValue)

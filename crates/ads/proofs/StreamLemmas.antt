@@ -1,5 +1,5 @@
 -- The bytes behind a stream that is up.
-use Rattle.std.proofs.Common.{◌≡◌, ◌≤◌, ◌||◌, ℕ, Bool, true, false, not, true≢false, Option, Some, None, List, [], ◌++◌, length, refl, ap, sym, ◌∙◌}
+use Rattle.std.proofs.Common.{◌≡◌, ◌≤◌, ℕ, Bool, true, false, true≢false, Option, Some, None, List, [], ◌++◌, length, refl, ap, sym, ◌∙◌}
 use Rattle.std.specs.Prelude.{is_none, is_some}
 use Rattle.xds_wire.specs.Frames.{IsBeginning, Tail, unfinished, broken, Cut}
 use Rattle.xds_wire.specs.declared.fault.FrameFault.{FrameFault}
@@ -9,10 +9,13 @@ use Rattle.ads.specs.Answer.{Accepted}
 use Rattle.ads.specs.Client.{ClientValue, AreAnswered, Feeds as ClientFeeds, ended_by, fault_in, most_bytes, stream_after}
 use Rattle.ads.specs.Control.{ControlValue, ServesBytes}
 use Rattle.ads.specs.Judgements.{AreJudged, TellsBy}
+use Rattle.ads.specs.Exchanges.{AreExchanged, TellsServedBy}
 use Rattle.ads.specs.declared.ended.Ended.{Ended}
+use Rattle.ads.specs.declared.exchange.Exchange.{Exchange}
 use Rattle.ads.specs.declared.ended.Ended.TheVariants as ended
 use Rattle.ads.specs.declared.judgement.Judgement.{Judgement}
 use Rattle.ads.specs.steps.Streams.{IsUp, kept_of, rest_of}
+use Rattle.ads.proofs.ServingLemmas.{exchanged_served}
 
 cut_of : (max : ℕ) (tail : Tail) (bytes : List ℕ) (ms : List (List ℕ)) (t : Tail) → IsUnfinished tail
     → Resumes max tail bytes ms t → Cut (rest_of tail ++ bytes) max ms t
@@ -93,12 +96,19 @@ part_served old new rest bytes replies up begins none snapshots stream same = rw
   ap is_none (sym stream),
 )
 
--- what is told of a stream that is none
-pub none_of : {A : Type 0} (stream : Option A) (b : Bool) → is_some stream ≡ not b → b ≡ is_none stream
-none_of None true told = refl
-none_of None false told = absurd (true≢false (sym told))
-none_of (Some s) true told = absurd (true≢false told)
-none_of (Some s) false told = refl
+-- and nothing is told of them
+pub part_exchanged : (old new : ControlValue) (rest bytes replies : List ℕ) (xs : List Exchange)
+    → old.stream ≡ Some rest → IsBeginning most_bytes (rest ++ bytes) → replies ≡ [] → xs ≡ []
+    → new.served ≡ old.served → TellsServedBy old.stream old bytes replies xs None new
+part_exchanged old new rest bytes replies xs up begins none empty same = rw up (record {
+  messages = [];
+  tail = unfinished (rest ++ bytes);
+  numbers = [];
+  reason = None;
+  cut = record { rest = rest ++ bytes; whole = refl; allowed = tt; ends = (refl, begins) };
+  exchanged = (empty, none, refl, same, refl);
+  told = refl;
+})
 
 -- the messages of the stream are answered, and the client keeps what they come to
 pub fed_stream : (old new : ClientValue) (rest bytes : List ℕ) (next : Accepted) (messages versions : List (List ℕ))
@@ -203,16 +213,38 @@ no_fault None (unfinished rest) goes = tt
 no_fault None (broken fault) goes = absurd (true≢false goes)
 no_fault (Some e) tail goes = absurd (true≢false goes)
 
--- the stream of a control plane that is kept
-pub served_after : (ends : Bool) (tail : Tail)
-    → kept_of (ends || is_some (fault_in tail)) tail ≡ stream_after ends tail
-served_after true tail = refl
-served_after false (broken fault) = refl
-served_after false (unfinished rest) = refl
+-- the messages of the stream are served, and the control plane keeps what they come to
+pub served_stream : (old new : ControlValue) (rest bytes : List ℕ) (messages : List (List ℕ)) (tail : Tail)
+    (reason ends : Option Ended) (replies numbers : List ℕ) (xs : List Exchange) → old.stream ≡ Some rest
+    → Cut (rest ++ bytes) most_bytes messages tail
+    → AreExchanged old.snapshots old.served messages xs replies numbers new.served reason
+    → new.stream ≡ stream_after (is_some reason) tail → ends ≡ ended_by reason (fault_in tail)
+    → new.snapshots ≡ old.snapshots → ServesBytes old bytes replies (is_some ends) numbers new
+served_stream old new rest bytes messages tail reason ends replies numbers xs up cut is stream why snapshots = rw up (
+  record {
+    messages = messages;
+    tail = tail;
+    ends = is_some reason;
+    cut = cut;
+    served = exchanged_served old.snapshots old.served messages xs replies numbers new.served reason is;
+    stream = stream;
+    snapshots = snapshots;
+  },
+  ends_if reason tail ends new.stream why stream,
+)
 
-pub served_so : (ends over : Bool) (fault : Option FrameFault) (tail after : Tail) (stream : Option (List ℕ))
-    → fault ≡ fault_in tail → over ≡ (ends || is_some fault) → after ≡ tail → stream ≡ kept_of over after
-    → stream ≡ stream_after ends tail
-served_so ends over fault tail after stream faulty is same kept =
-    let kept' : stream ≡ kept_of (ends || is_some (fault_in tail)) tail = rw (is, faulty, same) at kept in
-    kept' ∙ served_after ends tail
+-- what was received and sent on it, and why it ends
+pub exchanged_stream : (old new : ControlValue) (rest bytes : List ℕ) (messages : List (List ℕ)) (tail : Tail)
+    (reason ends : Option Ended) (replies numbers : List ℕ) (xs : List Exchange) → old.stream ≡ Some rest
+    → Cut (rest ++ bytes) most_bytes messages tail
+    → AreExchanged old.snapshots old.served messages xs replies numbers new.served reason
+    → ends ≡ ended_by reason (fault_in tail) → TellsServedBy old.stream old bytes replies xs ends new
+exchanged_stream old new rest bytes messages tail reason ends replies numbers xs up cut is why = rw up (record {
+  messages = messages;
+  tail = tail;
+  numbers = numbers;
+  reason = reason;
+  cut = cut;
+  exchanged = is;
+  told = why;
+})

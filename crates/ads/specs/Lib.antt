@@ -3,6 +3,7 @@ pub mod Answer
 pub mod Client
 pub mod Judgements
 pub mod Control
+pub mod Exchanges
 pub mod Schedules
 pub mod Serve
 pub mod Views

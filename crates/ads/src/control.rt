@@ -1,7 +1,9 @@
 //! The control plane's end of the update stream.
 
-ghost use Rattle.std.specs.Prelude.{◌≡◌, ℕ, None, List, IfOk, IsOk, OnErr};
+ghost use Rattle.std.specs.Prelude.{◌≡◌, ℕ, None, List, is_some, IfOk, IsOk, OnErr};
 
+use crate::ended::Ended;
+use crate::exchange::Exchange;
 use crate::serving::Served;
 use crate::snapshot::Snapshot;
 use crate::stream::{Stream, served_by};
@@ -12,8 +14,10 @@ use std::alloc::{AllocError, Global};
 pub struct Replied {
     /// The bytes to send, in whole frames.
     pub replies: Vec<u8>,
-    /// Whether no stream is up after the call.
-    pub broken: bool,
+    /// The requests that were complete, in order, with the responses that were sent for them.
+    pub exchanges: Vec<Exchange>,
+    /// Why no stream is up after the call. None if one is up.
+    pub ended: Option<Ended>,
 }
 
 /// A control plane that serves snapshots to one client in order, the next after each answer (xDS, state of the world).
@@ -29,6 +33,7 @@ pub struct Control {
 impl Control {
     ghost use Rattle.ads.specs.Control.{ServesBytes, new_control, stream_lost};
     ghost use Rattle.ads.specs.Ends.{control_view};
+    ghost use Rattle.ads.specs.Exchanges.{TellsServedBy};
     ghost use Rattle.ads.specs.Views.{snapshots_view};
     /// A control plane of these snapshots, numbered from 1, that has received no request. It takes no memory.
     pub fn new(alloc: Global, snapshots: Vec<Snapshot>) -> Control
@@ -49,38 +54,45 @@ impl Control {
 
     /// The stream delivers bytes. Each request that they complete is served, in order. The stream ends at a broken
     /// frame and at a message that is not a request. It also ends at a response that is too long, or whose number does
-    /// not fit in 64 bits. From then on it is `broken`, and nothing is sent until it is `lost`, which takes no memory.
+    /// not fit in 64 bits. The result says why. From then on nothing is sent until it is `lost`, which takes no memory.
     /// The only error is out of memory; after it all is as before the call.
     pub fn feed(&mut self, bytes: &[u8]) -> Result<Replied, AllocError>
         ensures found { IfOk result (λ fed. (numbers : List ℕ)
-            × ServesBytes (control_view self.old) bytes.now fed.replies.items fed.broken numbers
+            × ServesBytes (control_view self.old) bytes.now fed.replies.items (is_some fed.ended) numbers
             (control_view self.new)) }
+        ensures told { IfOk result (λ fed. TellsServedBy (control_view self.old).stream (control_view self.old) bytes.now
+            fed.replies.items fed.exchanges.items fed.ended (control_view self.new)) }
         ensures broken { (control_view self.old).stream ≡ None → IsOk result }
         ensures fault { OnErr result (control_view self.new ≡ control_view self.old) }
     {
         let Some(stream) = &mut self.stream else {
             return Ok(Replied {
                 replies: Vec::new(self.alloc),
-                broken: true,
+                exchanges: Vec::new(self.alloc),
+                ended: Some(Ended::NotUp),
             });
         };
         if stream.keeps(bytes)? {
             return Ok(Replied {
                 replies: Vec::new(self.alloc),
-                broken: false,
+                exchanges: Vec::new(self.alloc),
+                ended: None,
             });
         }
-        let (served, replies, stream) = served_by(
+        let (serving, stream, ended) = served_by(
             self.alloc,
             &self.snapshots,
             self.served,
             stream,
             bytes,
         )?;
-        let broken = stream.is_none();
         self.stream = stream;
-        self.served = served;
-        Ok(Replied { replies, broken })
+        self.served = serving.served;
+        Ok(Replied {
+            replies: serving.replies,
+            exchanges: serving.exchanges,
+            ended,
+        })
     }
 
     /// The stream is lost, with its unfinished bytes, and the next one begins. What was acknowledged stays, and the

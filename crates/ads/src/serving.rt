@@ -1,13 +1,18 @@
 //! The serving of the requests of a stream, in order.
 
-ghost use Rattle.std.specs.Prelude.{◌≡◌, ◌≢◌, ◌≤◌, ◌<◌, ◌-◌, ◌^◌, ◌++◌, ℕ, false, [], List, length, decimal, IfOk, IsOk, MatchBool, MatchOption};
+ghost use Rattle.std.specs.Prelude.{◌≡◌, ◌≢◌, ◌≤◌, ◌<◌, ◌-◌, ◌^◌, ◌++◌, ℕ, None, [], List, length, decimal, IfOk, IsOk, MatchBool, MatchOption};
+ghost use Rattle.std.specs.String.{string_bytes};
 ghost use Rattle.xds_wire.specs.Frames.{frame_of};
 ghost use Rattle.xds_wire.specs.View.{request_view, texts_view};
 ghost use Rattle.ads.specs.Client.{most_bytes};
-ghost use Rattle.ads.specs.Control.{AreServed, Sends, Advances, IsSnapshot, ResourceValue};
+ghost use Rattle.ads.specs.Control.{Sends, Advances, IsSnapshot, ResourceValue};
+ghost use Rattle.ads.specs.Exchanges.{AreExchanged, Says};
+ghost use Rattle.ads.specs.declared.exchange.Exchange.{Exchange};
 ghost use Rattle.ads.specs.Views.{snapshot_view, snapshots_view, served_view};
-ghost use Rattle.ads.specs.steps.Serving.{IsKind, AddsReplies, IsServed, MessageIsServed};
+ghost use Rattle.ads.specs.steps.Serving.{IsKind, AddsReplies, IsServed, IsTaken, MessageIsServed, sent_since};
 
+use crate::ended::Ended;
+use crate::exchange::{Exchange, Sent, Word};
 use crate::judging::EXTENSION_TYPE;
 use crate::refused::memory_apart;
 use crate::response::{MOST_BYTES, decimal_text, response_bytes};
@@ -38,43 +43,115 @@ pub(crate) enum Kind {
     Ignored,
 }
 
-/// Serves the complete messages, up to one that ends the stream. Returns whether there is one.
+/// The serving state while bytes are served, with the bytes to send and the exchanges.
+#[derive(Debug, Drop)]
+pub(crate) struct Serving {
+    pub(crate) served: Served,
+    pub(crate) replies: Vec<u8>,
+    pub(crate) exchanges: Vec<Exchange>,
+}
+
+/// Serves the complete messages, up to one that ends the stream. Returns why, if there is one.
 pub(crate) fn serve_all(
     alloc: Global,
     snapshots: &[Snapshot],
-    served: &mut Served,
-    replies: &mut Vec<u8>,
+    serving: &mut Serving,
     frames: &mut Frames,
-) -> Result<bool, AllocError>
-    ensures served { IfOk result (λ ends. (numbers : List ℕ) × AddsReplies
-        (λ added. AreServed (snapshots_view snapshots.now) (served_view served.old) frames.old.messages added
-        numbers (served_view served.new) ends) replies.old.items replies.new.items) }
+) -> Result<Option<Ended>, AllocError>
+    ensures served { IfOk result (λ reason. (exchanges : List Exchange) × (replies numbers : List ℕ)
+        × AreExchanged (snapshots_view snapshots.now) (served_view serving.old.served) frames.old.messages exchanges
+        replies numbers (served_view serving.new.served) reason
+        × (serving.new.exchanges.items ≡ serving.old.exchanges.items ++ exchanges)
+        × (serving.new.replies.items ≡ serving.old.replies.items ++ replies)) }
     ensures frames { (frames.new.max ≡ frames.old.max) × (frames.new.tail ≡ frames.old.tail) }
-    ensures taken { IfOk result (λ ends. ends ≡ false → frames.new.messages ≡ []) }
+    ensures taken { IfOk result (λ reason. reason ≡ None → frames.new.messages ≡ []) }
 {
     while let Some(message) = frames.next() {
-        if serve(alloc, snapshots, served, replies, message.as_slice())? {
-            return Ok(true);
+        if let Some(reason) = serve(alloc, snapshots, serving, message.as_slice())? {
+            return Ok(Some(reason));
         }
     }
-    Ok(false)
+    Ok(None)
 }
 
-/// Serves a message. Returns whether it ends the stream; a message that is not a request does.
+/// Serves a message. Returns why it ends the stream, if it does: it is no request, or its response cannot be sent.
 fn serve(
     alloc: Global,
     snapshots: &[Snapshot],
-    served: &mut Served,
-    replies: &mut Vec<u8>,
+    serving: &mut Serving,
     message: &[u8],
-) -> Result<bool, AllocError>
-    ensures { IfOk result (MessageIsServed (snapshots_view snapshots.now) message.now (served_view served.old)
-        replies.old.items replies.new.items (served_view served.new)) }
+) -> Result<Option<Ended>, AllocError>
+    ensures { IfOk result (MessageIsServed (snapshots_view snapshots.now) message.now serving.old serving.new) }
 {
     match memory_apart(read_request(alloc, message))? {
-        Ok(request) => serve_request(alloc, snapshots, served, replies, &request),
-        Err(_) => Ok(true),
+        Ok(request) => take_request(alloc, snapshots, serving, &request),
+        Err(refusal) => Ok(Some(Ended::BadMessage(refusal))),
     }
+}
+
+/// Serves a request, and appends the exchange. Returns why it ends the stream, if it does.
+fn take_request(
+    alloc: Global,
+    snapshots: &[Snapshot],
+    serving: &mut Serving,
+    request: &DiscoveryRequest<'_>,
+) -> Result<Option<Ended>, AllocError>
+    ensures { IfOk result (IsTaken (snapshots_view snapshots.now) (request_view request.now) serving.old serving.new) }
+{
+    let before = serving.served.sent;
+    let replies = &mut serving.replies;
+    let ends = serve_request(alloc, snapshots, &mut serving.served, replies, request)?;
+    let exchange = exchange_of(alloc, request, sent_since(before, &serving.served))?;
+    serving.exchanges.push(exchange)?;
+    if ends {
+        return Ok(Some(Ended::Unsendable));
+    }
+    Ok(None)
+}
+
+/// The response that was sent last, if more were sent than before.
+fn sent_since(before: u64, served: &Served) -> Option<Sent>
+    ensures { result ≡ sent_since before (served_view served.now) }
+{
+    if served.sent == before {
+        return None;
+    }
+    Some(Sent {
+        snapshot: served.current as u64,
+        count: served.sent,
+    })
+}
+
+/// The exchange of a request for which this response was sent.
+fn exchange_of(
+    alloc: Global,
+    request: &DiscoveryRequest<'_>,
+    sent: Option<Sent>,
+) -> Result<Exchange, AllocError>
+    ensures version { IfOk result (λ x. string_bytes x.version ≡ (request_view request.now).version_info) }
+    ensures nonce { IfOk result (λ x. string_bytes x.nonce ≡ (request_view request.now).response_nonce) }
+    ensures says { IfOk result (λ x. Says (request_view request.now) x.word) }
+    ensures sent { IfOk result (λ x. x.sent ≡ sent) }
+{
+    Ok(Exchange {
+        version: String::from_str(alloc, request.version_info)?,
+        nonce: String::from_str(alloc, request.response_nonce)?,
+        word: word_of(alloc, request)?,
+        sent,
+    })
+}
+
+/// What a request says.
+fn word_of(alloc: Global, request: &DiscoveryRequest<'_>) -> Result<Word, AllocError>
+    ensures { IfOk result (Says (request_view request.now)) }
+{
+    let Some(status) = &request.error_detail else {
+        if request.response_nonce.is_empty() {
+            return Ok(Word::Asks);
+        }
+        return Ok(Word::Accepts);
+    };
+    Ok(Word::Refuses(String::from_str(alloc, status.message)?))
 }
 
 /// Serves a request. Returns whether it ends the stream.

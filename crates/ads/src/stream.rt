@@ -1,6 +1,6 @@
 //! A stream that is up, and the effects of its bytes.
 
-ghost use Rattle.std.specs.Prelude.{◌≡◌, ◌<◌, ◌≤◌, ◌||◌, ◌++◌, ℕ, false, [], List, Bool, Option, length, is_some, IfOk, OnErr, MatchBool};
+ghost use Rattle.std.specs.Prelude.{◌≡◌, ◌<◌, ◌≤◌, ◌++◌, ℕ, false, [], List, Bool, Option, length, is_some, IfOk, OnErr, MatchBool};
 ghost use Rattle.xds_wire.specs.Frames.{Cut, IsBeginning, Tail};
 ghost use Rattle.xds_wire.specs.Stream.{IsUnfinished};
 ghost use Rattle.xds_wire.specs.Stream as wire;
@@ -11,7 +11,7 @@ ghost use Rattle.ads.specs.Views.{policies_view};
 ghost use Rattle.ads.specs.steps.Streams.{kept_of};
 ghost use Rattle.ads.specs.Ends.{state_view};
 ghost use Rattle.ads.specs.steps.Drafts.{Covers, draft_view};
-ghost use Rattle.ads.specs.Control.{AreServed};
+ghost use Rattle.ads.specs.Exchanges.{AreExchanged};
 ghost use Rattle.ads.specs.Views.{served_view, snapshots_view};
 
 use crate::accepted::{Draft, State};
@@ -19,7 +19,7 @@ use crate::answer::answer_all;
 use crate::config::Config;
 use crate::ended::Ended;
 use crate::response::MOST_BYTES;
-use crate::serving::{Served, serve_all};
+use crate::serving::{Served, Serving, serve_all};
 use crate::snapshot::Snapshot;
 use std::alloc::{AllocError, Global};
 use std::marker::Model;
@@ -114,33 +114,31 @@ fn end_of(reason: Option<Ended>, fault: Option<FrameFault>) -> Option<Ended>
     }
 }
 
-/// Serves the bytes at a control plane: the serving state after them, the bytes to send, and the stream after them.
+/// Serves the bytes at a control plane: the serving state after them, the bytes to send and the exchanges. Also the stream
+/// after them, or why it ended.
 pub(crate) fn served_by(
     alloc: Global,
     snapshots: &[Snapshot],
     served: Served,
     stream: &Stream,
     bytes: &[u8],
-) -> Result<(Served, Vec<u8>, Option<Stream>), AllocError>
-    ensures { IfOk result (λ r. (messages : List (List ℕ)) × (tail : Tail) × (ends : Bool) × (numbers : List ℕ)
-        × Cut (stream.now ++ bytes.now) most_bytes messages tail
-        × AreServed (snapshots_view snapshots.now) (served_view served) messages r.1.items numbers
-        (served_view r.0) ends × (r.2 ≡ stream_after ends tail)) }
+) -> Result<(Serving, Option<Stream>, Option<Ended>), AllocError>
+    ensures { IfOk result (λ r. (messages : List (List ℕ)) × (tail : Tail) × (numbers : List ℕ)
+        × (reason : Option Ended) × Cut (stream.now ++ bytes.now) most_bytes messages tail
+        × AreExchanged (snapshots_view snapshots.now) (served_view served) messages r.0.exchanges.items
+        r.0.replies.items numbers (served_view r.0.served) reason
+        × (r.1 ≡ stream_after (is_some reason) tail) × (r.2 ≡ ended_by reason (fault_in tail))) }
 {
     let mut frames = stream.frames.copy()?;
-    let mut served = served;
-    let mut replies = Vec::new(alloc);
+    let mut serving = Serving {
+        served,
+        replies: Vec::new(alloc),
+        exchanges: Vec::new(alloc),
+    };
     let fault = feed_frames(&mut frames, bytes)?;
-    let ends = serve_all(alloc, snapshots, &mut served, &mut replies, &mut frames)?;
-    let ended = is_over(ends, fault);
-    Ok((served, replies, kept(frames, ended)))
-}
-
-/// Whether a stream ends: a message ended it, or its frames are broken.
-fn is_over(ends: bool, fault: Option<FrameFault>) -> bool
-    ensures { result ≡ (ends || is_some fault) }
-{
-    ends || fault.is_some()
+    let reason = serve_all(alloc, snapshots, &mut serving, &mut frames)?;
+    let ended = end_of(reason, fault);
+    Ok((serving, kept(frames, ended.is_some()), ended))
 }
 
 /// The stream, unless it ended.

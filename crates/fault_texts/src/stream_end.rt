@@ -14,6 +14,7 @@ impl fmt::Display for StreamEnd {
         match self.0 {
             Ended::NotUp => f.write_str("no stream is up"),
             Ended::BadMessage(refusal) => write!(f, "a bad message: {}", meaning_of(refusal)),
+            Ended::Unsendable => f.write_str("a response is too long, or has no number"),
             Ended::BadFrame(FrameFault::Compressed) => {
                 f.write_str("a bad frame: its message is compressed")
             }

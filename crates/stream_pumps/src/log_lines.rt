@@ -1,11 +1,9 @@
 //! The lines of a log, as JSON objects. No contract describes them.
 
-use ads::{Client, Ended, Judgement, Outcome, Refused};
+use ads::{Client, Ended, Exchange, Judgement, Outcome, Refused, Sent, Word};
 use fault_texts::{StreamEnd, fault_of};
-use proto_wire::Refusal;
 use serde_json::{Value, json};
 use std::alloc::{AllocError, Global};
-use xds_wire::{read_request, read_response};
 
 /// Who ended a connection.
 #[derive(Clone, Copy)]
@@ -113,32 +111,28 @@ fn text_or_null(alloc: Global, text: Option<&str>) -> Result<Value, AllocError> 
 }
 
 /// The line for a client's request: it asks for resources, or answers a response.
-pub(crate) fn request_value(alloc: Global, request: &[u8]) -> Result<Value, Refusal> {
-    let request = read_request(alloc, request)?;
-    if let Some(status) = &request.error_detail {
-        return Ok(json!(in alloc; {
-            "update": "refused",
-            "nonce": request.response_nonce,
-            "message": status.message
-        })?);
-    }
-    let word = match request.response_nonce.is_empty() {
-        true => "asked",
-        false => "acknowledged",
+pub(crate) fn request_value(alloc: Global, exchange: &Exchange) -> Result<Value, AllocError> {
+    let word = match &exchange.word {
+        Word::Asks => "asked",
+        Word::Accepts => "acknowledged",
+        Word::Refuses(text) => {
+            return json!(in alloc; {
+                "update": "refused",
+                "nonce": exchange.nonce.as_str(),
+                "message": text.as_str()
+            });
+        }
     };
-    Ok(json!(in alloc; {
+    json!(in alloc; {
         "update": word,
-        "version": request.version_info,
-        "nonce": request.response_nonce
-    })?)
+        "version": exchange.version.as_str(),
+        "nonce": exchange.nonce.as_str()
+    })
 }
 
 /// The line for a response of a control plane.
-pub(crate) fn response_value(alloc: Global, response: &[u8]) -> Result<Value, Refusal> {
-    let response = read_response(alloc, response)?;
-    Ok(json!(in alloc; {
-        "update": "sent",
-        "version": response.version_info,
-        "nonce": response.nonce
-    })?)
+pub(crate) fn sent_value(alloc: Global, sent: &Sent) -> Result<Value, AllocError> {
+    let version = sent.snapshot.to_string(alloc)?;
+    let nonce = sent.count.to_string(alloc)?;
+    json!(in alloc; {"update": "sent", "version": version, "nonce": nonce})
 }

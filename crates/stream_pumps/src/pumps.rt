@@ -245,7 +245,6 @@ fn hear_requests<R: Read, W: Write, L: Write + Drop>(
         if count == 0 {
             return;
         }
-        log.hear(&room[..count]);
         match feed(control, &room[..count], writer, log) {
             true => {}
             false => return,
@@ -265,9 +264,9 @@ fn feed<W: Write, L: Write + Drop>(
 {
     match control.feed(bytes) {
         Ok(fed) => {
-            log.tell_served(&fed);
+            log.tell_exchanges(fed.exchanges);
             match write_whole(writer, &fed.replies) {
-                Ok(()) => !fed.broken,
+                Ok(()) => fed.ended.is_none(),
                 Err(_) => false,
             }
         }
