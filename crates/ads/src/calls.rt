@@ -60,6 +60,7 @@ impl Client {
             (client_view self.new)) }
         ensures judged { IfOk result (λ fed. TellsBy (client_view self.old).stream (client_view self.old) bytes.now
             fed.replies.items fed.judgements.items fed.ended (client_view self.new)) }
+        ensures agree { IfOk result (λ fed. fed.broken ≡ is_some fed.ended) }
         ensures config { (client_view self.new).config ≡ (client_view self.old).config }
         ensures down { (client_view self.old).stream ≡ None → IsOk result }
         ensures fault { OnErr result (client_view self.new ≡ client_view self.old) }
@@ -68,6 +69,7 @@ impl Client {
             return Ok(Fed {
                 replies: Vec::new(self.alloc),
                 judgements: Vec::new(self.alloc),
+                broken: true,
                 ended: Some(Ended::NotUp),
             });
         };
@@ -75,6 +77,7 @@ impl Client {
             return Ok(Fed {
                 replies: Vec::new(self.alloc),
                 judgements: Vec::new(self.alloc),
+                broken: false,
                 ended: None,
             });
         }
@@ -87,9 +90,11 @@ impl Client {
         )?;
         self.stream = stream;
         let (replies, judgements) = self.accepted.commit(draft);
+        let broken = ended.is_some();
         Ok(Fed {
             replies,
             judgements,
+            broken,
             ended,
         })
     }

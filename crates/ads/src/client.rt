@@ -19,6 +19,8 @@ pub struct Fed {
     pub replies: Vec<u8>,
     /// The judgements of the responses that were complete, in order.
     pub judgements: Vec<Judgement>,
+    /// Whether no stream is up after the call.
+    pub broken: bool,
     /// Why no stream is up after the call. None if one is up.
     pub ended: Option<Ended>,
 }

@@ -16,6 +16,8 @@ pub struct Replied {
     pub replies: Vec<u8>,
     /// The requests that were complete, in order, with the responses that were sent for them.
     pub exchanges: Vec<Exchange>,
+    /// Whether no stream is up after the call.
+    pub broken: bool,
     /// Why no stream is up after the call. None if one is up.
     pub ended: Option<Ended>,
 }
@@ -62,6 +64,7 @@ impl Control {
             (control_view self.new)) }
         ensures told { IfOk result (λ fed. TellsServedBy (control_view self.old).stream (control_view self.old) bytes.now
             fed.replies.items fed.exchanges.items fed.ended (control_view self.new)) }
+        ensures agree { IfOk result (λ fed. fed.broken ≡ is_some fed.ended) }
         ensures broken { (control_view self.old).stream ≡ None → IsOk result }
         ensures fault { OnErr result (control_view self.new ≡ control_view self.old) }
     {
@@ -69,6 +72,7 @@ impl Control {
             return Ok(Replied {
                 replies: Vec::new(self.alloc),
                 exchanges: Vec::new(self.alloc),
+                broken: true,
                 ended: Some(Ended::NotUp),
             });
         };
@@ -76,6 +80,7 @@ impl Control {
             return Ok(Replied {
                 replies: Vec::new(self.alloc),
                 exchanges: Vec::new(self.alloc),
+                broken: false,
                 ended: None,
             });
         }
@@ -88,9 +93,11 @@ impl Control {
         )?;
         self.stream = stream;
         self.served = serving.served;
+        let broken = ended.is_some();
         Ok(Replied {
             replies: serving.replies,
             exchanges: serving.exchanges,
+            broken,
             ended,
         })
     }
