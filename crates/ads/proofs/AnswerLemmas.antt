@@ -18,7 +18,7 @@ use Rattle.ads.specs.declared.ended.Ended.{Ended}
 use Rattle.ads.specs.declared.judgement.Judgement.{Judgement}
 use Rattle.ads.specs.Views.{policies_view}
 use Rattle.ads.proofs.PlaceLemmas.{replaced_nothing}
-use Rattle.ads.specs.steps.Drafts.{IsAnswered, IsNoResponse, draft_view}
+use Rattle.ads.specs.private.Drafts.{IsAnswered, IsNoResponse, draft_view}
 
 -- a fault other than out of memory
 pub not_memory : (F : Refusal → Type 0) (e : Refusal) → MemoryOr F e → e ≢ Refusal.Memory → F e

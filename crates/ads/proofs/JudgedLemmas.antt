@@ -18,11 +18,11 @@ use Rattle.rbac_policy.specs.Admission.{Admits}
 use Rattle.rbac_policy.specs.Admitted.{filter_view, limits_view}
 use Rattle.rbac_policy.specs.declared.filter.Admitted.{Admitted}
 use Rattle.ads.specs.Config.{ConfigValue, FilterValue}
-use Rattle.ads.specs.steps.Taking.{filter_of}
+use Rattle.ads.specs.private.Taking.{filter_of}
 use Rattle.ads.specs.Answer.{Gives, HoldsFilter, named, IsResource, IsNamed, IsRefusedFor, TwoOf, Refuses, doubled, refused, ExtensionIsRefused, FirstOf, HoldsFilterOf, IsAdmitting, RefusesNothing, extension_type, no_filter, not_admitted}
 use Rattle.ads.specs.Judgements.{FirstAt, IsRefusedAs, IsRefusedBy, Unfit, another_type, message_refused, two_extensions}
 use Rattle.ads.specs.Views.{admitted_view, policies_view}
-use Rattle.ads.specs.steps.Taking.{IsFirstUnfit, MatchNotAccepted, RunsOut, taking, IsJudged, given_of}
+use Rattle.ads.specs.private.Taking.{IsFirstUnfit, MatchNotAccepted, RunsOut, taking, IsJudged, given_of}
 use Rattle.ads.specs.declared.refused.Refusing.{Refusing}
 use Rattle.ads.specs.declared.judging.Judged.{Judged}
 use Rattle.ads.specs.declared.judging.Judged.TheVariants as judged

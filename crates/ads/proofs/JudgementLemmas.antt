@@ -20,7 +20,7 @@ use Rattle.ads.specs.declared.judgement.Outcome.TheVariants as outcomes
 use Rattle.ads.specs.declared.judgement.Refused.{Refused}
 use Rattle.ads.specs.declared.judging.Judged.TheVariants as judged
 use Rattle.ads.specs.declared.refused.Refusing.{Refusing}
-use Rattle.ads.specs.steps.Taking.{IsJudged}
+use Rattle.ads.specs.private.Taking.{IsJudged}
 use Rattle.ads.proofs.AnswerLemmas.{refused_answer}
 use Rattle.ads.proofs.JudgedLemmas.{refused_by}
 

@@ -6,7 +6,7 @@ use Rattle.xds_wire.specs.Discovery.{ExtensionMessage}
 use Rattle.xds_wire.specs.View.{extension_view}
 use Rattle.xds_wire.specs.declared.extension.TypedExtensionConfig.{TypedExtensionConfig}
 use Rattle.ads.specs.Answer.{named}
-use Rattle.ads.specs.steps.Taking.{IsDoubled}
+use Rattle.ads.specs.private.Taking.{IsDoubled}
 
 -- those of two lists
 pub named_append : (n : List ℕ) (xs ys : List ExtensionMessage)

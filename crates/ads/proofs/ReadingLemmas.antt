@@ -11,7 +11,7 @@ use Rattle.ads.specs.Judgements.{IsWrong}
 use Rattle.ads.specs.declared.judging.Judged.TheVariants as judged
 use Rattle.ads.specs.declared.refused.NotAccepted.{NotAccepted}
 use Rattle.ads.specs.declared.refused.Refusing.{Refusing}
-use Rattle.ads.specs.steps.Taking.{IsJudged, IsWhole, IsWholeRefused, MatchNotAccepted, ReadFault, Reads, RunsOut, reading}
+use Rattle.ads.specs.private.Taking.{IsJudged, IsWhole, IsWholeRefused, MatchNotAccepted, ReadFault, Reads, RunsOut, reading}
 use Rattle.ads.proofs.JudgedLemmas.{not_accepted_weaker}
 use Rattle.ads.proofs.Lists.{first_some, first_weaker, some_weaker}
 

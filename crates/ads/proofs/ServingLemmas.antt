@@ -18,7 +18,7 @@ use Rattle.ads.specs.Answer.{extension_type}
 use Rattle.ads.specs.declared.snapshot.Resource.{Resource}
 use Rattle.ads.specs.declared.snapshot.Snapshot.{Snapshot}
 use Rattle.ads.specs.Views.{resource_view, served_view, snapshot_view, snapshots_view}
-use Rattle.ads.specs.steps.Serving.{any_of, AddsReplies, IsServed, ResponseIsOf, MessageIsServed, a_request, no_request, sent_since}
+use Rattle.ads.specs.private.Serving.{any_of, AddsReplies, IsServed, ResponseIsOf, MessageIsServed, a_request, no_request, sent_since}
 use Rattle.ads.proofs.Lists.{zip_push}
 
 -- whether the resource is asked for

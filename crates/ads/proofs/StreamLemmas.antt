@@ -14,7 +14,7 @@ use Rattle.ads.specs.declared.ended.Ended.{Ended}
 use Rattle.ads.specs.declared.exchange.Exchange.{Exchange}
 use Rattle.ads.specs.declared.ended.Ended.TheVariants as ended
 use Rattle.ads.specs.declared.judgement.Judgement.{Judgement}
-use Rattle.ads.specs.steps.Streams.{IsUp, kept_of, rest_of}
+use Rattle.ads.specs.private.Streams.{IsUp, kept_of, rest_of}
 use Rattle.ads.proofs.ServingLemmas.{exchanged_served}
 
 cut_of : (max : ℕ) (tail : Tail) (bytes : List ℕ) (ms : List (List ℕ)) (t : Tail) → IsUnfinished tail

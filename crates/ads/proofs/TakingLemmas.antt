@@ -15,7 +15,7 @@ use Rattle.rbac_policy.specs.declared.filter.Admitted.{Admitted}
 use Rattle.ads.specs.Answer.{AdmittedValue, FirstOf, Gives, RefusesNothing, named}
 use Rattle.ads.specs.Views.{entries_view, entry_view}
 use Rattle.ads.specs.Judgements.{Unfit}
-use Rattle.ads.specs.steps.Taking.{IsFirstUnfit, filter_of}
+use Rattle.ads.specs.private.Taking.{IsFirstUnfit, filter_of}
 use Rattle.ads.specs.declared.refused.Refusing.{Refusing}
 use Rattle.ads.specs.Views.{policies_view}
 use Rattle.ads.proofs.Lists.{first_middle, first_place, zip_push}

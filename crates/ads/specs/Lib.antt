@@ -8,4 +8,4 @@ pub mod Schedules
 pub mod Serve
 pub mod Views
 pub mod Ends
-pub mod steps
+pub mod private

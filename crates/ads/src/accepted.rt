@@ -6,7 +6,7 @@ ghost use Rattle.ads.specs.Answer.{AdmittedValue, nothing_accepted, replaced};
 ghost use Rattle.ads.specs.Views.{entries_view};
 ghost use Rattle.ads.specs.Views.{policies_view};
 ghost use Rattle.ads.specs.Ends.{state_view};
-ghost use Rattle.ads.specs.steps.Drafts.{draft_view, Covers};
+ghost use Rattle.ads.specs.private.Drafts.{draft_view, Covers};
 
 use crate::config::Config;
 use crate::judgement::Judgement;

@@ -7,8 +7,8 @@ ghost use Rattle.ads.specs.Answer.{AdmittedValue};
 ghost use Rattle.ads.specs.Judgements.{AreJudged};
 ghost use Rattle.ads.specs.declared.judgement.Judgement.{Judgement};
 ghost use Rattle.ads.specs.declared.judging.Judged.TheVariants as judged;
-ghost use Rattle.ads.specs.steps.Drafts.{AddsJudgement, Covers, IsAnswered, IsNoResponse, draft_view};
-ghost use Rattle.ads.specs.steps.Taking.{IsJudged};
+ghost use Rattle.ads.specs.private.Drafts.{AddsJudgement, Covers, IsAnswered, IsNoResponse, draft_view};
+ghost use Rattle.ads.specs.private.Taking.{IsJudged};
 
 use crate::accepted::Draft;
 use crate::config::Config;

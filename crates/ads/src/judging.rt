@@ -12,7 +12,7 @@ ghost use Rattle.ads.specs.Judgements.{Unfit};
 ghost use Rattle.ads.specs.Views.{admitted_view, entries_view, policies_view};
 ghost use Rattle.ads.specs.declared.judging.Judged.TheVariants.{Given, Refused};
 ghost use Rattle.ads.specs.declared.refused.NotAccepted.TheVariants.{NoMemory};
-ghost use Rattle.ads.specs.steps.Taking.{IsDoubled, IsFirstUnfit, IsJudged, MatchNotAccepted, ReadFault, Reads, RunsOut, filter_of, given_of};
+ghost use Rattle.ads.specs.private.Taking.{IsDoubled, IsFirstUnfit, IsJudged, MatchNotAccepted, ReadFault, Reads, RunsOut, filter_of, given_of};
 
 use crate::config::Config;
 use crate::refused::{NotAccepted, Refusing, memory_apart};

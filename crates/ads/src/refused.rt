@@ -3,7 +3,7 @@
 ghost use Rattle.std.specs.Prelude.{◌≡◌, ◌≢◌, Err, IfOk, OnErr, Some};
 ghost use Rattle.proto_wire.specs.declared.refusal.Refusal.TheVariants.{Memory};
 ghost use Rattle.ads.specs.declared.refused.NotAccepted.TheVariants.{NoMemory, Refused};
-ghost use Rattle.ads.specs.steps.Taking.{IsWhole, IsWholeRefused};
+ghost use Rattle.ads.specs.private.Taking.{IsWhole, IsWholeRefused};
 
 use proto_wire::{Fault, Refusal};
 use std::alloc::{AllocError, AllocFailed};

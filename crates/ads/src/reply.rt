@@ -6,7 +6,7 @@ ghost use Rattle.xds_wire.specs.View.{request_view, response_view, status_view, 
 ghost use Rattle.ads.specs.Config.{names_of};
 ghost use Rattle.ads.specs.Answer.{ack_of, request_of, code_of, status_of, node_of};
 ghost use Rattle.ads.specs.Views.{entries_view};
-ghost use Rattle.ads.specs.steps.Drafts.{AddsFrame};
+ghost use Rattle.ads.specs.private.Drafts.{AddsFrame};
 
 use crate::config::Config;
 use crate::judging::EXTENSION_TYPE;

@@ -8,7 +8,7 @@ ghost use Rattle.xds_wire.specs.View.{any_view, texts_view};
 ghost use Rattle.xds_wire.specs.Written.{ExtensionWritten, ResponseWritten};
 ghost use Rattle.ads.specs.Control.{IsResponseOf, asked, extension_of};
 ghost use Rattle.ads.specs.Views.{resource_view, snapshot_view};
-ghost use Rattle.ads.specs.steps.Serving.{any_of, ResponseIsOf};
+ghost use Rattle.ads.specs.private.Serving.{any_of, ResponseIsOf};
 
 use crate::judging::{EXTENSION_TYPE, FILTER_TYPE};
 use crate::snapshot::{Resource, Snapshot};

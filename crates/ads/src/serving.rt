@@ -9,7 +9,7 @@ ghost use Rattle.ads.specs.Control.{Sends, Advances, IsSnapshot, ResourceValue};
 ghost use Rattle.ads.specs.Exchanges.{AreExchanged, Says};
 ghost use Rattle.ads.specs.declared.exchange.Exchange.{Exchange};
 ghost use Rattle.ads.specs.Views.{snapshot_view, snapshots_view, served_view};
-ghost use Rattle.ads.specs.steps.Serving.{IsKind, AddsReplies, IsServed, IsTaken, MessageIsServed, sent_since};
+ghost use Rattle.ads.specs.private.Serving.{IsKind, AddsReplies, IsServed, IsTaken, MessageIsServed, sent_since};
 
 use crate::ended::Ended;
 use crate::exchange::{Exchange, Sent, Word};

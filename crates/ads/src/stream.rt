@@ -8,9 +8,9 @@ ghost use Rattle.ads.specs.declared.ended.Ended.{Ended};
 ghost use Rattle.ads.specs.Client.{ended_by, fault_in, most_bytes, stream_after};
 ghost use Rattle.ads.specs.Judgements.{AreJudged};
 ghost use Rattle.ads.specs.Views.{policies_view};
-ghost use Rattle.ads.specs.steps.Streams.{kept_of};
+ghost use Rattle.ads.specs.private.Streams.{kept_of};
 ghost use Rattle.ads.specs.Ends.{state_view};
-ghost use Rattle.ads.specs.steps.Drafts.{Covers, draft_view};
+ghost use Rattle.ads.specs.private.Drafts.{Covers, draft_view};
 ghost use Rattle.ads.specs.Exchanges.{AreExchanged};
 ghost use Rattle.ads.specs.Views.{served_view, snapshots_view};
 
@@ -33,7 +33,7 @@ pub(crate) struct Stream {
 
 impl Model for Stream {
     ghost use Rattle.std.specs.Prelude.{ℕ, List};
-    ghost use Rattle.ads.specs.steps.Streams.{IsUp, rest_of};
+    ghost use Rattle.ads.specs.private.Streams.{IsUp, rest_of};
 
     ghost Value = { List ℕ };
 

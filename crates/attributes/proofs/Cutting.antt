@@ -4,8 +4,8 @@ use Rattle.std.proofs.lemmas.Bool.{cases_lt}
 use Rattle.std.proofs.lemmas.List.{drop_all, length-drop, length-take, take_min, take_rest}
 use Rattle.std.specs.List.{after_first, before_first, position_or_len, slice_range}
 use Rattle.attributes.specs.Attributes.{without_fragment}
-use Rattle.attributes.specs.steps.Parts.{Begins}
-use Rattle.attributes.specs.steps.Request.{IsCut}
+use Rattle.attributes.specs.private.Parts.{Begins}
+use Rattle.attributes.specs.private.Request.{IsCut}
 use Rattle.attributes.proofs.Parts.{begins_trans, longer, slice_kept}
 
 -- a text begins with its first bytes

@@ -5,8 +5,8 @@ use Rattle.std.specs.FinMap.{entries}
 use Rattle.std.specs.Str.{bytes_eq}
 use Rattle.attributes.specs.Headers.{headers_of}
 use Rattle.attributes.specs.declared.headers.Field.{Field}
-use Rattle.attributes.specs.steps.Headers.{AreSorted}
-use Rattle.attributes.specs.steps.Parts.{IsNext, entries_in, entry_in, part_of}
+use Rattle.attributes.specs.private.Headers.{AreSorted}
+use Rattle.attributes.specs.private.Parts.{IsNext, entries_in, entry_in, part_of}
 use Rattle.attributes.proofs.JoinSteps.{next_at, next_entries, with_last}
 use Rattle.attributes.proofs.Neighbours.{headers_one}
 

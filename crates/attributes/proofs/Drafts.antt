@@ -8,8 +8,8 @@ use Rattle.attributes.specs.Draft.{DraftValue, with_entries, with_entry}
 use Rattle.attributes.specs.Headers.{Entry}
 use Rattle.attributes.specs.declared.headers.Field.{Field}
 use Rattle.attributes.specs.declared.part.Part.{Part}
-use Rattle.attributes.specs.steps.Drafts.{IsAdded, IsDraft, draft_in, own_entries, own_names}
-use Rattle.attributes.specs.steps.Parts.{AreFields, Begins, IsAt, IsField, IsPart, entries_in, entry_in, part_of}
+use Rattle.attributes.specs.private.Drafts.{IsAdded, IsDraft, draft_in, own_entries, own_names}
+use Rattle.attributes.specs.private.Parts.{AreFields, Begins, IsAt, IsField, IsPart, entries_in, entry_in, part_of}
 use Rattle.attributes.proofs.Parts.{are_fields_kept, begins_itself, begins_trans, entries_kept, is_part_kept, part_kept}
 
 module _ (t u : List ℕ) (fs : List Field) (m p : Part) (held : IsDraft t fs m p)

@@ -8,9 +8,9 @@ use Rattle.attributes.specs.Headers.{Entry, headers_of, line_entry, name_cmp}
 use Rattle.attributes.specs.Request.{IsTextEntry, request_of}
 use Rattle.attributes.specs.declared.part.Spot.{Spot}
 use Rattle.attributes.specs.declared.request.CutPlaces.{CutPlaces}
-use Rattle.attributes.specs.steps.Drafts.{own_entries}
-use Rattle.attributes.specs.steps.Parts.{IsSpotOf, spot_of}
-use Rattle.attributes.specs.steps.Request.{IsCut, IsKept, of_parts}
+use Rattle.attributes.specs.private.Drafts.{own_entries}
+use Rattle.attributes.specs.private.Parts.{IsSpotOf, spot_of}
+use Rattle.attributes.specs.private.Request.{IsCut, IsKept, of_parts}
 use Rattle.attributes.proofs.OwnHeaders.{method_last, target_last}
 use Rattle.attributes.proofs.Requests.{request_kept, request_same}
 use Rattle.attributes.proofs.Spots.{spot_inside}

@@ -8,7 +8,7 @@ use Rattle.std.proofs.lemmas.Bool.{cases_lt}
 use Rattle.std.proofs.lemmas.List.{get_or_default, length-map}
 use Rattle.std.proofs.Math.ListN.{get_or-map}
 use Rattle.attributes.specs.Headers.{Entry, name_cmp}
-use Rattle.attributes.specs.steps.Headers.{AreBefore, AreBehind}
+use Rattle.attributes.specs.private.Headers.{AreBefore, AreBehind}
 use Rattle.attributes.proofs.Places.{above_first, put_between}
 use Rattle.attributes.proofs.TextOrder.{IsBefore, after_from_before, before_from_greater, before_trans, both_first, both_second, t_from_true}
 

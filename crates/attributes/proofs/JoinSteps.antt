@@ -5,8 +5,8 @@ use Rattle.std.specs.FinMap.{entries}
 use Rattle.std.specs.Str.{bytes_eq}
 use Rattle.attributes.specs.Headers.{Entry, headers_of}
 use Rattle.attributes.specs.declared.headers.Field.{Field}
-use Rattle.attributes.specs.steps.Headers.{AreSorted}
-use Rattle.attributes.specs.steps.Parts.{AreFields, Begins, IsAt, IsField, IsNext, entries_in, entry_in, part_of}
+use Rattle.attributes.specs.private.Headers.{AreSorted}
+use Rattle.attributes.specs.private.Parts.{AreFields, Begins, IsAt, IsField, IsNext, entries_in, entry_in, part_of}
 use Rattle.attributes.proofs.Neighbours.{headers_next, headers_same}
 use Rattle.attributes.proofs.Parts.{entries_kept, entry_kept, is_field_kept, is_part_kept, part_kept}
 use Rattle.attributes.proofs.TextOrder.{before_from_not}

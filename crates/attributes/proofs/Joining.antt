@@ -7,7 +7,7 @@ use Rattle.std.proofs.lemmas.Cmp.{nat_list_cmp_total}
 use Rattle.std.proofs.lemmas.List.{length-map, map-append}
 use Rattle.std.proofs.lemmas.List.Elements.{filter-append}
 use Rattle.attributes.specs.Headers.{Entry, HeaderMap, headers_of, name_cmp, values_of, with_commas}
-use Rattle.attributes.specs.steps.Headers.{AreJoined, joined}
+use Rattle.attributes.specs.private.Headers.{AreJoined, joined}
 use Rattle.attributes.proofs.TextOrder.{names_differ, same_from_test, test_same, ties_by_test}
 
 -- the values of one more entry

@@ -5,7 +5,7 @@ use Rattle.std.specs.FinMap.{entries, entries_sorted, find, is_sorted, len, len-
 use Rattle.std.specs.FinMap.Entries.{put}
 use Rattle.std.specs.Str.{bytes_eq}
 use Rattle.attributes.specs.Headers.{Entry, headers_of, name_cmp}
-use Rattle.attributes.specs.steps.Headers.{AreSorted}
+use Rattle.attributes.specs.private.Headers.{AreSorted}
 use Rattle.attributes.proofs.Joining.{added, entries_more, len_headers_of}
 use Rattle.attributes.proofs.Places.{put_behind, put_last}
 use Rattle.attributes.proofs.TextOrder.{IsBefore, before_from_not}

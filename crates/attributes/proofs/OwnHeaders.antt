@@ -4,8 +4,8 @@ use Rattle.std.specs.FinMap.{entries, find, get-entries}
 use Rattle.std.proofs.lemmas.List.{map-append}
 use Rattle.std.proofs.lemmas.List.Elements.{filter-append}
 use Rattle.attributes.specs.Headers.{Entry, headers_of, name_cmp, values_of}
-use Rattle.attributes.specs.steps.Drafts.{own_entries}
-use Rattle.attributes.specs.steps.Headers.{joined}
+use Rattle.attributes.specs.private.Drafts.{own_entries}
+use Rattle.attributes.specs.private.Headers.{joined}
 use Rattle.attributes.proofs.Joining.{added, are_joined_headers_of, joined_added}
 
 -- values that are joined end with the last of them

@@ -11,7 +11,7 @@ use Rattle.std.specs.Str.{IsAscii, IsUtf8}
 use Rattle.attributes.specs.Headers.{Entry}
 use Rattle.attributes.specs.declared.headers.Field.{Field}
 use Rattle.attributes.specs.declared.part.Part.{Part}
-use Rattle.attributes.specs.steps.Parts.{AreFields, Begins, IsAt, IsField, IsPart, entries_in, entry_in, part_of}
+use Rattle.attributes.specs.private.Parts.{AreFields, Begins, IsAt, IsField, IsPart, entries_in, entry_in, part_of}
 
 -- a part is what the bytes up to its end have from its start on
 slice_is : (t : List ℕ) (a b : ℕ) → a ≤ b → slice_range t a b ≡ drop a (take b t)

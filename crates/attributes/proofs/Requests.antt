@@ -10,9 +10,9 @@ use Rattle.attributes.specs.Headers.{Entry, HeaderMap, headers_of, line_entry, n
 use Rattle.attributes.specs.Request.{IsRequest, IsTextEntry, RequestValue, request_of}
 use Rattle.attributes.specs.declared.headers.Field.{Field}
 use Rattle.attributes.specs.declared.part.Spot.{Spot}
-use Rattle.attributes.specs.steps.Drafts.{own_entries}
-use Rattle.attributes.specs.steps.Parts.{AreFields, IsField, IsSpotOf, entries_in, entry_in, spot_of}
-use Rattle.attributes.specs.steps.Request.{IsKept, of_parts}
+use Rattle.attributes.specs.private.Drafts.{own_entries}
+use Rattle.attributes.specs.private.Parts.{AreFields, IsField, IsSpotOf, entries_in, entry_in, spot_of}
+use Rattle.attributes.specs.private.Request.{IsKept, of_parts}
 use Rattle.attributes.proofs.HeaderMaps.{from_sorted_entries}
 use Rattle.attributes.proofs.Joining.{len_headers_of}
 

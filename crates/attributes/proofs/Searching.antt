@@ -15,7 +15,7 @@ use Rattle.std.proofs.Math.ListN.{get_or-map}
 use denote.Param.Members.{Mut}
 use denote.Ref.{Bor}
 use Rattle.attributes.specs.Headers.{Entry, name_cmp}
-use Rattle.attributes.specs.steps.Headers.{IsPlace}
+use Rattle.attributes.specs.private.Headers.{IsPlace}
 use Rattle.attributes.proofs.Places.{put_at, put_between}
 use Rattle.attributes.proofs.TextOrder.{IsBefore, both_first, both_second, less_from_test, names_differ, t_from_true}
 

@@ -13,7 +13,7 @@ use denote.Ref.{Bor}
 use Rattle.std.proofs.lemmas.List.Elements.{filter_agree, All-cons, All-nil}
 use Rattle.std.proofs.lemmas.List.Sorted.{All-permutation, ranks_by}
 use Rattle.attributes.specs.Headers.{Entry, name_cmp, values_of}
-use Rattle.attributes.specs.steps.Headers.{AreSorted}
+use Rattle.attributes.specs.private.Headers.{AreSorted}
 use Rattle.attributes.proofs.TextOrder.{same_from_test, neither_is_same}
 
 -- the order of fields by name

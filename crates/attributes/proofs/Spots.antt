@@ -9,7 +9,7 @@ use Rattle.attributes.specs.Headers.{Entry, name_cmp}
 use Rattle.attributes.specs.declared.headers.Field.{Field}
 use Rattle.attributes.specs.declared.part.Part.{Part}
 use Rattle.attributes.specs.declared.part.Spot.{Spot}
-use Rattle.attributes.specs.steps.Parts.{AreFields, AreKept, IsAt, IsField, IsPart, IsSpot, IsSpotOf, entries_in, entry_in, part_of, spot_of, value_in}
+use Rattle.attributes.specs.private.Parts.{AreFields, AreKept, IsAt, IsField, IsPart, IsSpot, IsSpotOf, entries_in, entry_in, part_of, spot_of, value_in}
 use Rattle.attributes.proofs.HeaderMaps.{all_views}
 use Rattle.attributes.proofs.Parts.{slice_slice}
 

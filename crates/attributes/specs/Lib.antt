@@ -5,4 +5,4 @@ pub mod Draft
 pub mod Request
 pub mod Limits
 pub mod Attributes
-pub mod steps
+pub mod private

@@ -5,7 +5,7 @@ ghost use Rattle.attributes.specs.Attributes.{HasSortedPairs, attr_name, attr_of
 ghost use Rattle.attributes.specs.declared.attribute.AttrId.{AttrId};
 ghost use Rattle.attributes.specs.Conn.{conn_view, text_view};
 ghost use Rattle.attributes.specs.Request.{IsRequest};
-ghost use Rattle.attributes.specs.steps.Request.{lent_view};
+ghost use Rattle.attributes.specs.private.Request.{lent_view};
 
 use crate::lookup::Headers;
 use crate::request::Request;

@@ -4,8 +4,8 @@ ghost use Rattle.std.specs.Char.{to_ascii_lowercase};
 ghost use Rattle.std.specs.Str.{IsAscii};
 ghost use Rattle.attributes.specs.Draft.{first_draft, with_entries, with_entry};
 ghost use Rattle.attributes.specs.Headers.{header_name, line_entry, lines_view};
-ghost use Rattle.attributes.specs.steps.Drafts.{IsAdded, own_entries, own_names};
-ghost use Rattle.attributes.specs.steps.Parts.{AreFields, Begins, IsAt, IsPart, entries_in, part_of};
+ghost use Rattle.attributes.specs.private.Drafts.{IsAdded, own_entries, own_names};
+ghost use Rattle.attributes.specs.private.Parts.{AreFields, Begins, IsAt, IsPart, entries_in, part_of};
 
 use crate::headers::Field;
 use crate::lookup::start_of;
@@ -48,7 +48,7 @@ pub struct Draft {
 
 impl Model for Draft {
     ghost use Rattle.attributes.specs.Draft.{DraftValue};
-    ghost use Rattle.attributes.specs.steps.Drafts.{IsDraft, draft_in};
+    ghost use Rattle.attributes.specs.private.Drafts.{IsDraft, draft_in};
 
     ghost Value = { DraftValue };
 

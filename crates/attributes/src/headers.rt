@@ -4,8 +4,8 @@ ghost use Rattle.std.specs.Bool.{OnTrue};
 ghost use Rattle.std.specs.FinMap.{entries};
 ghost use Rattle.std.specs.Str.{bytes_eq};
 ghost use Rattle.attributes.specs.Headers.{Entry, headers_of, name_cmp, values_of};
-ghost use Rattle.attributes.specs.steps.Headers.{AreSorted};
-ghost use Rattle.attributes.specs.steps.Parts.{AreFields, Begins, IsField, IsNext, IsPart, entries_in, entry_in, part_of};
+ghost use Rattle.attributes.specs.private.Headers.{AreSorted};
+ghost use Rattle.attributes.specs.private.Parts.{AreFields, Begins, IsField, IsNext, IsPart, entries_in, entry_in, part_of};
 
 use crate::part::{Part, bytes_at, join_values, text_at};
 use std::alloc::{AllocError, Global};

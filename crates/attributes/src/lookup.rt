@@ -4,9 +4,9 @@ ghost use Rattle.std.specs.FinMap.{find, is_sorted};
 ghost use Rattle.std.specs.List.Sorted.{IsSearchInRange};
 ghost use Rattle.attributes.specs.Headers.{Entry, header_view, headers_view, name_cmp};
 ghost use Rattle.attributes.specs.Request.{IsTextEntry};
-ghost use Rattle.attributes.specs.steps.Headers.{AreBefore, AreBehind, IsPlace};
-ghost use Rattle.attributes.specs.steps.Parts.{AreFields, AreKept, IsField, IsPart, IsSpot, IsSpotOf, entries_in, entry_in, part_of, spot_of};
-ghost use Rattle.attributes.specs.steps.Request.{lent_entry, lent_view};
+ghost use Rattle.attributes.specs.private.Headers.{AreBefore, AreBehind, IsPlace};
+ghost use Rattle.attributes.specs.private.Parts.{AreFields, AreKept, IsField, IsPart, IsSpot, IsSpotOf, entries_in, entry_in, part_of, spot_of};
+ghost use Rattle.attributes.specs.private.Request.{lent_entry, lent_view};
 
 use crate::headers::Field;
 use crate::part::{Part, Spot, bytes_at, text_at};
@@ -28,7 +28,7 @@ pub struct Headers {
 impl Model for Headers {
     ghost use Rattle.std.specs.Prelude.{List};
     ghost use Rattle.attributes.specs.Headers.{Entry};
-    ghost use Rattle.attributes.specs.steps.Parts.{AreKept, entries_in};
+    ghost use Rattle.attributes.specs.private.Parts.{AreKept, entries_in};
 
     ghost Value = { List Entry };
 

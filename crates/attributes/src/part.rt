@@ -2,7 +2,7 @@
 ghost use Rattle.std.specs.Prelude.{◌≡◌, ◌≤◌, ◌-◌, ◌∷◌, ◌++◌, IfOk, IsUtf8, drop, length, map, take};
 ghost use Rattle.std.specs.Char.{to_ascii_lowercase};
 ghost use Rattle.std.specs.Str.{IsAscii};
-ghost use Rattle.attributes.specs.steps.Parts.{Begins, IsAt, IsPart, part_of};
+ghost use Rattle.attributes.specs.private.Parts.{Begins, IsAt, IsPart, part_of};
 
 use std::alloc::AllocError;
 use std::str;

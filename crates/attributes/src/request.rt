@@ -8,8 +8,8 @@ ghost use Rattle.attributes.specs.Attributes.{query_of, url_path_of};
 ghost use Rattle.attributes.specs.Conn.{conn_view};
 ghost use Rattle.attributes.specs.Headers.{Entry, headers_of, line_entry, lines_view};
 ghost use Rattle.attributes.specs.Request.{IsRequest, IsTextEntry, header_of, protocol_of, request_of};
-ghost use Rattle.attributes.specs.steps.Parts.{AreFields, entries_in};
-ghost use Rattle.attributes.specs.steps.Request.{IsCut};
+ghost use Rattle.attributes.specs.private.Parts.{AreFields, entries_in};
+ghost use Rattle.attributes.specs.private.Request.{IsCut};
 
 use crate::conn::{Conn, facts_are_sound};
 use crate::draft::{Draft, Room, add_lines, add_own};
@@ -41,9 +41,9 @@ impl Model for Request {
     ghost use Rattle.attributes.specs.Request.{RequestValue};
     ghost use Rattle.attributes.specs.contracts.address.Ip as ip;
     ghost use Rattle.std.specs.Coded.{codes};
-    ghost use Rattle.attributes.specs.steps.Headers.{header_map_code};
-    ghost use Rattle.attributes.specs.steps.Parts.{spot_of};
-    ghost use Rattle.attributes.specs.steps.Request.{IsKept, of_parts};
+    ghost use Rattle.attributes.specs.private.Headers.{header_map_code};
+    ghost use Rattle.attributes.specs.private.Parts.{spot_of};
+    ghost use Rattle.attributes.specs.private.Request.{IsKept, of_parts};
 
     ghost Value = { RequestValue };
 

@@ -12,7 +12,7 @@ use Rattle.std.specs.declared.boxed.Box.{Box}
 use Rattle.std.specs.declared.vec.Vec.{Vec}
 use Rattle.cel_overload.specs.declared.overload.Overload.{Overload}
 use Rattle.cel_tree.specs.View.{target_of, tree_view}
-use Rattle.cel_tree.specs.steps.TreeViews.{boxed_view, tree_entries_view, trees_view}
+use Rattle.cel_tree.specs.private.TreeViews.{boxed_view, tree_entries_view, trees_view}
 use Rattle.cel_tree.specs.declared.tree.Tree.{Tree}
 use Rattle.cel_tree.specs.declared.tree.TreeEntry.{TreeEntry}
 use Rattle.std.specs.declared.sync.ArcStr.{ArcStr}
@@ -24,15 +24,15 @@ use Rattle.cel_types.specs.Elaborated.{kind, kinds, typed_call, typed_list, type
 use Rattle.cel_types.specs.Names.{local}
 use Rattle.cel_types.specs.Typing.{IsMap, Kinds, TypeGiven, has_target, locals_in, locals_in_each, locals_in_entries, name_type}
 use Rattle.cel_types.specs.View.{expr_view, loop_of}
-use Rattle.cel_types.specs.steps.ExprViews.{exprs_view, parts_view}
+use Rattle.cel_types.specs.private.ExprViews.{exprs_view, parts_view}
 use Rattle.cel_check.specs.declared.checker.names.Name.{Name}
 use Rattle.cel_check.specs.declared.checker.names.Name.TheVariants as names
 use Rattle.cel_check.specs.declared.checker.scope.Scope.{Scope, Empty, Local, the_lemmas}
 use Rattle.cel_types.specs.declared.typed.TypedExpr.{TypedExpr, the_lemmas as expr_lemmas}
 use Rattle.cel_types.specs.declared.typed.TypedExpr as exprs
 use Rattle.cel_types.specs.declared.typed.TypedLoop.{TypedLoop}
-use Rattle.cel_check.specs.steps.Kinds.{IsMapOf, NoMapOf, NotStated, in_turn}
-use Rattle.cel_check.specs.steps.Scopes.{IsName, name_view, scope_view}
+use Rattle.cel_check.specs.private.Kinds.{IsMapOf, NoMapOf, NotStated, in_turn}
+use Rattle.cel_check.specs.private.Scopes.{IsName, name_view, scope_view}
 use Rattle.cel_types.proofs.CheckNames.{empty_name}
 
 pub view_empty : scope_view Empty ≡ []

@@ -8,7 +8,7 @@ use Rattle.cel_types.specs.declared.typed.TypedExpr.{TypedExpr}
 use Rattle.std.specs.FinMap.{get}
 use Rattle.cel_tree.specs.Checked.{CelTypeEntry}
 use Rattle.cel_tree.specs.Tree.{CelTree, constant, ident, select, call, list_literal, map_literal, comprehension, CelTarget, no_target, target, CelTrees, no_trees, tree, CelTreeEntries, no_tree_entries, tree_entry}
-use Rattle.cel_value.specs.steps.EqualityLaws.{type_eq_decides}
+use Rattle.cel_value.specs.private.EqualityLaws.{type_eq_decides}
 use Rattle.cel_value.specs.Types.{ValueType, map_type, type_eq, type_of_key, type_view}
 use Rattle.cel_value.specs.declared.cel_type.CelType.{CelType}
 use Rattle.cel_value.specs.declared.cel_type.KeyType.TheVariants as keys
@@ -18,15 +18,15 @@ use Rattle.cel_types.specs.Typing.{EachAgrees, EntriesAgree, EntryAgrees, ListRu
 use Rattle.cel_types.specs.TypingFaults.{CallsFault, ElementsFault, NodeTypeFault, ItemTypes, KeyTypes, PairsFault, SelectFault, SomeTypes}
 use Rattle.cel_types.specs.TypingFaults.{unsupported_kind, another_type, no_element_name, no_accumulator_name, one_name, one_variable, second_accumulator, no_elements, no_condition, no_step}
 use Rattle.cel_types.specs.View.{expr_view, typed_of}
-use Rattle.cel_types.specs.steps.ExprViews.{exprs_view}
+use Rattle.cel_types.specs.private.ExprViews.{exprs_view}
 use Rattle.cel_check.specs.Places.{OwnFault, PairFaultAt, SomeFaultAt, TypeFaultAt, id_of}
-use Rattle.cel_check.specs.steps.Checks.{AreFound, AreTwo, BodyFault, EitherFault, InsideAgrees, IsBody, IsAttribute, IsCalled, IsFound, IsNode, IsTarget, IsTurn, NamesFault, PlacedInside, TurnFault}
-use Rattle.cel_check.specs.steps.Kinds.{IsListOf, IsMapOf, NoCall, NoElements, NoListOf, NoMapOf, each_view, field_of, in_turn, second_type}
+use Rattle.cel_check.specs.private.Checks.{AreFound, AreTwo, BodyFault, EitherFault, InsideAgrees, IsBody, IsAttribute, IsCalled, IsFound, IsNode, IsTarget, IsTurn, NamesFault, PlacedInside, TurnFault}
+use Rattle.cel_check.specs.private.Kinds.{IsListOf, IsMapOf, NoCall, NoElements, NoListOf, NoMapOf, each_view, field_of, in_turn, second_type}
 use Rattle.cel_check.specs.declared.checker.kinds.TurnTypes.{TurnTypes}
 use Rattle.cel_types.specs.declared.typed.Variables.{Variables}
 use Rattle.std.proofs.lemmas.Bool.{and_parts}
 use Rattle.cel_tree.specs.View.{EntryParts, LoopParts, loop_of, tree_entries_of, tree_view, trees_of}
-use Rattle.cel_tree.specs.steps.TreeViews.{entry_view, tree_entries_view, trees_view}
+use Rattle.cel_tree.specs.private.TreeViews.{entry_view, tree_entries_view, trees_view}
 use Rattle.cel_types.proofs.OneType.{OneAtMost, one_type, over_one}
 use Rattle.cel_types.proofs.TurnScopes.{over_length}
 use Rattle.cel_types.proofs.Total.{same_type, typed_no_root}

@@ -16,7 +16,7 @@ use Rattle.cel_types.specs.TypingFaults.{CallsFault, CheckFault, ElementsFault, 
 use Rattle.cel_types.specs.TypingFaults.{no_element_name, no_accumulator_name, one_name, one_variable, second_accumulator, no_elements, no_condition, no_step as faulty_step, in_range, in_init, in_turn as faulty_turn, in_result}
 use Rattle.cel_types.specs.TypingFaults as faults
 use Rattle.cel_check.specs.Places.{OwnFault, TypeFaultAt, TargetFaultAt, SomeFaultAt, PairFaultAt, CheckFaultAt, too_many_locals, untyped, id_of}
-use Rattle.cel_check.specs.steps.Checks.{InsideAt, PlacedInside}
+use Rattle.cel_check.specs.private.Checks.{InsideAt, PlacedInside}
 
 -- ---- a fault at its place is one
 

@@ -8,7 +8,7 @@ use Rattle.cel_value.specs.Types.{ValueType}
 use Rattle.cel_value.specs.Values.{CelAnswer, CelValue}
 use Rattle.cel_ops.specs.Charges.{field_charge, list_literal_charge, map_literal_charge}
 use Rattle.cel_overload.specs.Answers.{HaveTypes}
-use Rattle.cel_overload.specs.steps.Charges.{overload_charge}
+use Rattle.cel_overload.specs.private.Charges.{overload_charge}
 use Rattle.cel_overload.specs.declared.overload.Overload.{Overload}
 use Rattle.cel_types.specs.Elaborated.{TypedTree}
 use Rattle.cel_types.specs.Meaning.{turns_of}

@@ -12,10 +12,10 @@ use Rattle.machine_code.specs.Instructions.{Instruction, code_view, instr_view, 
 use Rattle.machine_code.specs.declared.instr.Instr.{Instr}
 use Rattle.cel_compile.specs.declared.lengths.Lengths.{Lengths}
 use Rattle.cel_compile.specs.Codes.{code_of, codes_of, instruction_of}
-use Rattle.cel_compile.specs.steps.Extents.{extent}
+use Rattle.cel_compile.specs.private.Extents.{extent}
 use Rattle.cel_compile.specs.Slots.{HasFewLocals}
-use Rattle.cel_compile.specs.steps.Emitting.{Grows, GrowsAll, HasRoom, Writes, passing_over}
-use Rattle.cel_compile.specs.steps.Lengths.{EndsWith, lengths_are, lengths_of}
+use Rattle.cel_compile.specs.private.Emitting.{Grows, GrowsAll, HasRoom, Writes, passing_over}
+use Rattle.cel_compile.specs.private.Lengths.{EndsWith, lengths_are, lengths_of}
 use Rattle.cel_compile.proofs.Placing.{and_code, choice_code, codes_are, or_code}
 
 many : (is : List Instr) → length (code_view is) ≡ length is

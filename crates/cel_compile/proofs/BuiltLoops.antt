@@ -8,9 +8,9 @@ use Rattle.machine_code.specs.Instructions.{code_view, instr_view, Jump, LoopSta
 use Rattle.machine_code.specs.declared.instr.Instr.{Instr}
 use Rattle.cel_compile.specs.declared.lengths.Lengths.{Lengths}
 use Rattle.cel_compile.specs.Codes.{code_of, turn_instruction}
-use Rattle.cel_compile.specs.steps.Extents.{extent}
-use Rattle.cel_compile.specs.steps.Emitting.{Grows, HasRoom}
-use Rattle.cel_compile.specs.steps.Lengths.{EndsWith, lengths_are, lengths_of}
+use Rattle.cel_compile.specs.private.Extents.{extent}
+use Rattle.cel_compile.specs.private.Emitting.{Grows, HasRoom}
+use Rattle.cel_compile.specs.private.Lengths.{EndsWith, lengths_are, lengths_of}
 use Rattle.cel_compile.proofs.Built.{LoopRoom, in_words, left, next, one, taken, then}
 use Rattle.cel_compile.proofs.Placing.{loop_code_is}
 

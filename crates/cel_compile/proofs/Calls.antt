@@ -8,7 +8,7 @@ use Rattle.cel_value.specs.Values.{CelAnswer}
 use Rattle.attributes.specs.Request.{RequestValue}
 use Rattle.cel_ops.specs.Operations.{Work, takes_one, takes_two, work}
 use Rattle.cel_overload.specs.Answers.{operands_answer, on_one, on_two, overload_answer}
-use Rattle.cel_overload.specs.steps.Charges.{operands_charge, charge_of_one, charge_of_two, overload_charge}
+use Rattle.cel_overload.specs.private.Charges.{operands_charge, charge_of_one, charge_of_two, overload_charge}
 use Rattle.cel_overload.specs.declared.overload.Overload.{Overload}
 use Rattle.cel_overload.specs.declared.overload.Overload.TheVariants as overloads
 use Rattle.machine_code.specs.Instructions.{Instruction, Operate}

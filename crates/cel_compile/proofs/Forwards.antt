@@ -18,7 +18,7 @@ use Rattle.machine_code.specs.Shapes.{Serves, leaves, ways}
 use Rattle.machine_code.specs.Slots.{Slot, field_slot, has_field_slot, of}
 use Rattle.machine_code.specs.Typable.{Forward, Table}
 use Rattle.cel_compile.specs.Codes.{code_of, instruction_of, list_instruction, map_instruction}
-use Rattle.cel_compile.specs.steps.Extents.{extent}
+use Rattle.cel_compile.specs.private.Extents.{extent}
 use Rattle.cel_compile.proofs.Forks.{both_flow, choice_flow, if_false, if_true, less_serves, loop_flow, tests}
 use Rattle.cel_compile.proofs.Leading.{call_leaves, constant_known, known_local, list_leaves, map_leaves, pushed, shape, to, walked, walked_is}
 use Rattle.cel_compile.proofs.Placing.{Placed, PlacedAll, extent_is, has_all, placed}

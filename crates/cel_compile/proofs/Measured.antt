@@ -9,11 +9,11 @@ use Rattle.cel_overload.specs.declared.overload.Overload.TheVariants as overload
 use Rattle.cel_types.specs.Elaborated.{TypedTree, no_typed, typed, typed_call, typed_loop}
 use Rattle.cel_types.specs.declared.typed.Variables.{Variables}
 use Rattle.cel_types.specs.View.{expr_view}
-use Rattle.cel_types.specs.steps.ExprViews.{exprs_view}
+use Rattle.cel_types.specs.private.ExprViews.{exprs_view}
 use Rattle.cel_types.specs.declared.typed.TypedExpr.{TypedExpr}
 use Rattle.cel_compile.specs.declared.lengths.Lengths.{Lengths}
-use Rattle.cel_compile.specs.steps.Extents.{extent, extents}
-use Rattle.cel_compile.specs.steps.Lengths.{Adds, Counts, Measures, MeasuresAll, lengths_are, lengths_of}
+use Rattle.cel_compile.specs.private.Extents.{extent, extents}
+use Rattle.cel_compile.specs.private.Lengths.{Adds, Counts, Measures, MeasuresAll, lengths_are, lengths_of}
 
 -- a part's lengths after another's
 pub adds : {k0 k1 k2 : List Lengths} {n m a b : ℕ} {ks ls : List Lengths} (s c : ℕ) → Adds k0 k1 n a ks → Adds k1 k2 m b ls

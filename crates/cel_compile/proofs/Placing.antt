@@ -10,7 +10,7 @@ use Rattle.cel_types.specs.declared.typed.Variables.{Variables}
 use Rattle.cel_value.specs.Types.{ValueType}
 use Rattle.machine_code.specs.Instructions.{Instruction, Const, Attr, Load, Store, Operate, Field, HasField, Jump, IfFalse, IfTrue, Test, LoopStart, LoopTest}
 use Rattle.cel_compile.specs.Codes.{instruction_of, list_instruction, map_instruction, turn_instruction, code_of, codes_of}
-use Rattle.cel_compile.specs.steps.Extents.{extent, extents}
+use Rattle.cel_compile.specs.private.Extents.{extent, extents}
 
 -- the instructions stand in the code at this position
 abbrev pub HasAt : List Instruction → ℕ → List Instruction → Type 0

@@ -16,7 +16,7 @@ use Rattle.proto_wire.specs.Refusal.{MemoryOr}
 use Rattle.proto_wire.specs.declared.refusal.Refusal.{Refusal}
 use Rattle.proto_wire.specs.declared.refusal.Refusal.TheVariants.{Memory, TooLarge}
 use Rattle.cel_compile.specs.Codes.{code_of, count}
-use Rattle.cel_compile.specs.steps.Extents.{extent, extents}
+use Rattle.cel_compile.specs.private.Extents.{extent, extents}
 use Rattle.cel_compile.specs.Slots.{HasFewLocals, HaveFewLocals}
 use Rattle.cel_compile.proofs.Placing.{extent_is}
 

@@ -12,7 +12,7 @@ use Rattle.cel_ops.specs.Charges.{list_literal_charge, loop_charge, map_literal_
 use Rattle.cel_ops.specs.Collections.{elements_of, field, has_field, list_literal, map_literal}
 use Rattle.cel_ops.specs.Logic.{conjunction, disjunction}
 use Rattle.cel_overload.specs.Answers.{HaveTypes, conditional, on_two, overload_answer}
-use Rattle.cel_overload.specs.steps.Charges.{overload_charge}
+use Rattle.cel_overload.specs.private.Charges.{overload_charge}
 use Rattle.cel_ops.specs.declared.operation.Operation.TheVariants as operations
 use Rattle.cel_overload.specs.declared.overload.Overload.TheVariants as overloads
 use Rattle.cel_types.specs.Elaborated.{TypedTree, typed_constant, typed_local, typed_attribute, typed_field, typed_has, typed_call, typed_list, typed_map, typed_loop, TypedTrees, no_typed, typed, kind, kinds}

@@ -8,7 +8,7 @@ use Rattle.cel_types.proofs.WellTypedAnswers.{answer_typed}
 use Rattle.machine_code.specs.Instructions.{Instruction}
 use Rattle.machine_code.specs.Machine.{RunReaches, begins, start}
 use Rattle.cel_compile.specs.Codes.{code_of}
-use Rattle.cel_compile.specs.steps.Extents.{extent}
+use Rattle.cel_compile.specs.private.Extents.{extent}
 use Rattle.cel_compile.specs.Sound.{IsSound, RunsTo}
 use Rattle.cel_compile.proofs.Bounds.{Bounds, bounds_of}
 use Rattle.cel_compile.proofs.Goes.{reached, state}

@@ -1,4 +1,4 @@
 pub mod Codes
 pub mod Sound
 pub mod Slots
-pub mod steps
+pub mod private

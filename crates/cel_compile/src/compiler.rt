@@ -11,7 +11,7 @@ ghost use Rattle.cel_types.specs.Elaborated.{IsElaborated, kind, typed_call};
 ghost use Rattle.cel_ops.specs.declared.operation.Operation.TheVariants as operations;
 ghost use Rattle.cel_overload.specs.declared.overload.Overload.TheVariants as Overload;
 ghost use Rattle.cel_types.specs.View.{expr_view, loop_of, typed_view};
-ghost use Rattle.cel_types.specs.steps.ExprViews.{exprs_view, parts_view};
+ghost use Rattle.cel_types.specs.private.ExprViews.{exprs_view, parts_view};
 ghost use Rattle.cel_types.specs.WellTyped.{IsWellTyped};
 ghost use Rattle.proto_wire.specs.Refusal.{MemoryOr};
 ghost use Rattle.machine_code.specs.Instructions.{code_view, instr_view};
@@ -20,8 +20,8 @@ ghost use Rattle.machine_code.specs.Typable.{Forward};
 ghost use Rattle.cel_compile.specs.Codes.{code_of};
 ghost use Rattle.cel_compile.specs.Slots.{HasFewLocals};
 ghost use Rattle.cel_compile.specs.Sound.{IsSound, RunsToMeaning};
-ghost use Rattle.cel_compile.specs.steps.Extents.{extent};
-ghost use Rattle.cel_compile.specs.steps.Emitting.{Grows, GrowsAll, HasRoom, HaveRoom};
+ghost use Rattle.cel_compile.specs.private.Extents.{extent};
+ghost use Rattle.cel_compile.specs.private.Emitting.{Grows, GrowsAll, HasRoom, HaveRoom};
 
 use crate::few_locals::require_few_locals;
 use crate::instructions::{

@@ -2,7 +2,7 @@
 
 ghost use Rattle.std.specs.Prelude.{◌≡◌, IsTrue, ◌↔◌, OnOk, IfErr};
 ghost use Rattle.cel_types.specs.View.{expr_view, loop_of};
-ghost use Rattle.cel_types.specs.steps.ExprViews.{exprs_view, parts_view};
+ghost use Rattle.cel_types.specs.private.ExprViews.{exprs_view, parts_view};
 ghost use Rattle.cel_value.specs.Types.{ValueType};
 ghost use Rattle.cel_compile.specs.Slots.{HasFewLocals, HaveFewLocals};
 

@@ -5,13 +5,13 @@ ghost use Rattle.cel_ops.specs.declared.operation.Operation.TheVariants as opera
 ghost use Rattle.cel_overload.specs.declared.overload.Overload.TheVariants as Overload;
 ghost use Rattle.cel_value.specs.Types.{type_view};
 ghost use Rattle.cel_tree.specs.View.{constant_view};
-ghost use Rattle.cel_types.specs.steps.ExprViews.{exprs_view};
+ghost use Rattle.cel_types.specs.private.ExprViews.{exprs_view};
 ghost use Rattle.cel_types.specs.Names.{variable_count};
 ghost use Rattle.machine_code.specs.Instructions.{instr_view, Const, Field, HasField};
 ghost use Rattle.machine_code.specs.Instructions as machine;
 ghost use Rattle.cel_value.specs.Texts.{text_view};
 ghost use Rattle.cel_compile.specs.Codes.{instruction_of, list_instruction, map_instruction, turn_instruction};
-ghost use Rattle.cel_compile.specs.steps.Emitting.{passing_over};
+ghost use Rattle.cel_compile.specs.private.Emitting.{passing_over};
 
 use cel_ops::Operation;
 use cel_overload::Overload;

@@ -5,10 +5,10 @@ ghost use Rattle.std.specs.Prelude.{◌≡◌, ◌≤◌, ◌<◌, ◌+◌, ◌-
 ghost use Rattle.cel_value.specs.Types.{ValueType};
 ghost use Rattle.cel_types.specs.Elaborated.{typed_call};
 ghost use Rattle.cel_types.specs.View.{expr_view, loop_of};
-ghost use Rattle.cel_types.specs.steps.ExprViews.{exprs_view, parts_view};
+ghost use Rattle.cel_types.specs.private.ExprViews.{exprs_view, parts_view};
 ghost use Rattle.cel_ops.specs.declared.operation.Operation.TheVariants as operations;
 ghost use Rattle.cel_overload.specs.declared.overload.Overload.TheVariants as Overload;
-ghost use Rattle.cel_compile.specs.steps.Lengths.{Counts, Measures, MeasuresAll, lengths_are};
+ghost use Rattle.cel_compile.specs.private.Lengths.{Counts, Measures, MeasuresAll, lengths_are};
 
 use crate::instructions::{is_choice, is_junction};
 use cel_overload::Overload;

@@ -7,7 +7,7 @@ use Rattle.cel_value.specs.Values.{CelAnswer, CelValue, bool, bytes, fails, int,
 use Rattle.cel_ops.specs.Charges.{comparison_charge, counted_length, field_charge, in_list_charge, in_map_charge, joined_charge, keys_mass, list_literal_charge, loop_charge, map_index_charge, map_literal_charge, pair_count, size_charge, strict_charge_all, strict_charge_two}
 use Rattle.cel_ops.specs.Strict.{Gathered, all_values, first_error, gather, gathered_after}
 use Rattle.cel_overload.specs.Answers.{HaveTypes}
-use Rattle.cel_overload.specs.steps.Charges.{charge_of_one, charge_of_two, overload_charge}
+use Rattle.cel_overload.specs.private.Charges.{charge_of_one, charge_of_two, overload_charge}
 use Rattle.cel_overload.specs.declared.overload.Overload.{Overload}
 use Rattle.cel_ops.specs.declared.operation.Operation.TheVariants as operations
 use Rattle.cel_overload.specs.declared.overload.Overload.TheVariants as overloads

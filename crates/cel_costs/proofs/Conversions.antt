@@ -15,7 +15,7 @@ use Rattle.cel_ops.specs.declared.operation.Operation.TheVariants as operations
 use Rattle.cel_ops.proofs.Conversions.{int_text_short, uint_text_short}
 use Rattle.cel_ops.proofs.Numbers.{int64_fits, uint64_below}
 use Rattle.cel_overload.specs.Answers.{on_one}
-use Rattle.cel_overload.specs.steps.Charges.{charge_of_one}
+use Rattle.cel_overload.specs.private.Charges.{charge_of_one}
 use Rattle.cel_overload.specs.declared.overload.Overload.TheVariants as overloads
 use Rattle.cel_costs.specs.Costs.{call_size, charge_at, conversion_cost, conversion_size}
 use Rattle.cel_costs.specs.Sizes.{AllWithin, Fits, Flat, Size, Text, Within, most_of}

@@ -6,7 +6,7 @@ use Rattle.attributes.specs.Request.{RequestValue}
 use Rattle.cel_value.specs.Values.{CelAnswer, CelValue, CelValues, bool, fails, value}
 use Rattle.cel_value.specs.declared.error.CelError.{CelError}
 use Rattle.cel_ops.specs.Strict.{first_error, gather, gathered_after, strict_all}
-use Rattle.cel_ops.specs.steps.Gathering.{some_error}
+use Rattle.cel_ops.specs.private.Gathering.{some_error}
 use Rattle.cel_overload.specs.Answers.{conditional, function_answer}
 use Rattle.cel_overload.specs.declared.function.Function.{Function}
 use Rattle.cel_overload.specs.declared.function.Function.TheVariants as functions

@@ -5,7 +5,7 @@ use Rattle.attributes.specs.Request.{RequestValue}
 use Rattle.cel_value.specs.Values.{CelAnswer, bool, fails, list, value}
 use Rattle.cel_value.specs.declared.error.CelError.{CelError}
 use Rattle.cel_ops.specs.Collections as collections
-use Rattle.cel_ops.specs.steps.Gathering.{some_error}
+use Rattle.cel_ops.specs.private.Gathering.{some_error}
 use Rattle.cel_overload.specs.Functions.{function_named}
 use Rattle.cel_tree.specs.Tree.{CelTree, constant, ident, select, call, list_literal, map_literal, comprehension, CelTarget, no_target, target, CelTrees, no_trees, tree, CelTreeEntries, no_tree_entries, tree_entry}
 use Rattle.cel_types.specs.Meaning.{call_answer, name_answer, select_answer, turns_of}

@@ -9,12 +9,12 @@ use Rattle.attributes.specs.Request.{RequestValue}
 use Rattle.attributes.proofs.TextOrder.{t_from_true}
 use Rattle.cel_ops.specs.Attributes.{header_entries}
 use Rattle.cel_ops.specs.Collections.{entry_before, map_literal, written_entries}
-use Rattle.cel_ops.specs.steps.Gathering.{some_error}
+use Rattle.cel_ops.specs.private.Gathering.{some_error}
 use Rattle.cel_ops.specs.Strict.{all_values, gather, gathered_after}
 use Rattle.cel_overload.specs.Functions.{function_named}
 use Rattle.cel_tree.specs.Tree.{CelTarget, CelTrees, call, no_target, target}
 use Rattle.cel_tree.specs.View.{LoopParts, tree_view}
-use Rattle.cel_tree.specs.steps.TreeViews.{tree_entries_view, trees_view}
+use Rattle.cel_tree.specs.private.TreeViews.{tree_entries_view, trees_view}
 use Rattle.cel_tree.specs.declared.tree.Tree.{Tree}
 use Rattle.cel_tree.specs.declared.tree.TreeEntry.{TreeEntry}
 use Rattle.cel_value.specs.Items.{item_at, joined_items}
@@ -27,7 +27,7 @@ use Rattle.cel_types.specs.Meaning.{call_answer}
 use Rattle.cel_meaning.specs.Origin.{CelAround, CelPlaced, call_place, in_result, placed, placed_before, placed_each, placed_entries, placed_target, placed_turn, settled}
 use Rattle.cel_meaning.specs.Places.{placed_view}
 use Rattle.cel_meaning.specs.declared.place.Placed.{Placed}
-use Rattle.cel_meaning.specs.steps.Plain.{are_pairs, behind, turn_around, turn_view, turns}
+use Rattle.cel_meaning.specs.private.Plain.{are_pairs, behind, turn_around, turn_view, turns}
 use Rattle.cel_ops.proofs.Operands.{gather_error as erring}
 pub use Rattle.cel_value.proofs.Items.{ranged, is_ranged, at_ranged, joined_none, some_left}
 use Rattle.cel_ops.proofs.AttributeTypes.{seen_pairs}

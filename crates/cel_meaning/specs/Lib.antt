@@ -1,3 +1,3 @@
 pub mod Origin
 pub mod Places
-pub mod steps
+pub mod private

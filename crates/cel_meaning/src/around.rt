@@ -10,7 +10,7 @@ ghost use Rattle.cel_value.specs.Texts.{text_view};
 ghost use Rattle.cel_value.specs.View.{answer_view};
 ghost use Rattle.cel_meaning.specs.Origin.{begins, call_place, choice_place, first_place, place_of, settled};
 ghost use Rattle.cel_meaning.specs.Places.{place_view, placed_view};
-ghost use Rattle.cel_meaning.specs.steps.Plain.{around_view, shared_view};
+ghost use Rattle.cel_meaning.specs.private.Plain.{around_view, shared_view};
 
 use crate::calls::call;
 use crate::known::{answers_of_locals, find};

@@ -5,7 +5,7 @@ ghost use Rattle.cel_ops.specs.Arithmetic.{int_answer};
 ghost use Rattle.cel_ops.specs.Collections.{elements_of, keyed, numbered};
 ghost use Rattle.cel_value.specs.View.{answer_view, entries_view, map_view, pairs_view, value_view, values_view};
 ghost use Rattle.cel_types.specs.Meaning.{one_each, turns_of};
-ghost use Rattle.cel_meaning.specs.steps.Plain.{keyed_turns, turn_view};
+ghost use Rattle.cel_meaning.specs.private.Plain.{keyed_turns, turn_view};
 
 use cel_ops::element_at;
 use cel_types::Variables;

@@ -8,7 +8,7 @@ ghost use Rattle.cel_value.specs.View.{answer_view};
 ghost use Rattle.cel_types.specs.Names.{bare_root, local, root_of, turn_scope, variables_of};
 ghost use Rattle.cel_meaning.specs.Origin.{answers_of, bare};
 ghost use Rattle.cel_meaning.specs.Places.{around, locals_view, placed_view};
-ghost use Rattle.cel_meaning.specs.steps.Plain.{known_view, turn_view};
+ghost use Rattle.cel_meaning.specs.private.Plain.{known_view, turn_view};
 
 use crate::elements::Turn;
 use crate::place::Placed;

@@ -2,9 +2,9 @@
 
 ghost use Rattle.std.specs.Prelude.{◌≡◌, IfOk, is_some, map, option_map};
 ghost use Rattle.cel_ops.specs.Collections.{list_literal, map_literal};
-ghost use Rattle.cel_ops.specs.steps.Gathering.{some_error};
+ghost use Rattle.cel_ops.specs.private.Gathering.{some_error};
 ghost use Rattle.cel_value.specs.View.{answer_view};
-ghost use Rattle.cel_meaning.specs.steps.Plain.{are_pairs, is_key};
+ghost use Rattle.cel_meaning.specs.private.Plain.{are_pairs, is_key};
 
 use cel_value::Answer;
 use std::alloc::{AllocError, Global};

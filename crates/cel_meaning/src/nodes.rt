@@ -2,14 +2,14 @@
 
 ghost use Rattle.std.specs.Prelude.{◌≡◌, [], ◌∷◌, IfOk, Option, Some, map, option_map};
 ghost use Rattle.cel_tree.specs.View.{target_of, tree_view};
-ghost use Rattle.cel_tree.specs.steps.TreeViews.{boxed_view, loop_view, tree_entries_view, trees_view};
+ghost use Rattle.cel_tree.specs.private.TreeViews.{boxed_view, loop_view, tree_entries_view, trees_view};
 ghost use Rattle.cel_value.specs.Texts.{text_view};
 ghost use Rattle.cel_value.specs.View.{answer_view};
 ghost use Rattle.cel_types.specs.Meaning.{select_answer};
 ghost use Rattle.cel_types.specs.Names.{root_of};
 ghost use Rattle.cel_meaning.specs.Origin.{CelPlaced, in_result, placed, placed_each, placed_entries, placed_target, placed_turn, select_place};
 ghost use Rattle.cel_meaning.specs.Places.{placed_view};
-ghost use Rattle.cel_meaning.specs.steps.Plain.{around_view, loop_answer, shared_view, turn_view, turned, turns};
+ghost use Rattle.cel_meaning.specs.private.Plain.{around_view, loop_answer, shared_view, turn_view, turned, turns};
 
 use crate::around::Around;
 use crate::elements::{Turn, turns_of};

@@ -5,7 +5,7 @@ ghost use Rattle.cel_value.specs.View.{answer_view, value_view};
 ghost use Rattle.cel_value.specs.Values.{value};
 ghost use Rattle.cel_meaning.specs.Origin.{bare, first_place};
 ghost use Rattle.cel_meaning.specs.Places.{placed_view};
-ghost use Rattle.cel_meaning.specs.steps.Plain.{shared_view};
+ghost use Rattle.cel_meaning.specs.private.Plain.{shared_view};
 
 use cel_tree::Tree;
 use cel_value::{Answer, Value, copy_answer};

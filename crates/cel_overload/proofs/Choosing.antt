@@ -3,7 +3,7 @@ use Rattle.std.proofs.Common.{◌≡◌, ◌&&◌, Bool, true, false, cond, List
 use Rattle.std.proofs.lemmas.Bool.{and_parts}
 use Rattle.std.proofs.lemmas.Option.{none-some}
 use Rattle.cel_value.specs.Types.{ValueType, bool_type, int_type, uint_type, text_type, bytes_type, list_type, map_type, type_eq, type_of_key, is_ordered}
-use Rattle.cel_value.specs.steps.EqualityLaws.{type_eq_decides}
+use Rattle.cel_value.specs.private.EqualityLaws.{type_eq_decides}
 use Rattle.cel_ops.specs.Typed.{IsJoined, IsOrdered, IsSized}
 use Rattle.cel_ops.specs.declared.arithmetic.ArithmeticOp.{ArithmeticOp}
 use Rattle.cel_ops.specs.declared.arithmetic.ArithmeticOp.TheVariants as ops
@@ -12,7 +12,7 @@ use Rattle.cel_ops.specs.declared.comparison.CompareOp.TheVariants as compares
 use Rattle.cel_ops.specs.declared.conversion.Conversion.TheVariants as kinds
 use Rattle.cel_overload.specs.Functions.{may_take}
 use Rattle.cel_overload.specs.Overloads.{IsCompared, IsNumber, IsOverload, Takes, function_of}
-use Rattle.cel_overload.specs.steps.Choosing.{are_both, are_compared, calculated, choose, choose_arithmetic, choose_binary, choose_on, choose_ternary, choose_to_text, choose_unary, is_joined, is_number, is_sized, when}
+use Rattle.cel_overload.specs.private.Choosing.{are_both, are_compared, calculated, choose, choose_arithmetic, choose_binary, choose_on, choose_ternary, choose_to_text, choose_unary, is_joined, is_number, is_sized, when}
 use Rattle.cel_overload.specs.declared.function.Function.{Function}
 use Rattle.cel_overload.specs.declared.function.Function.TheVariants as functions
 use Rattle.cel_overload.specs.declared.overload.Overload.{Overload}

@@ -4,7 +4,7 @@ use Rattle.std.proofs.lemmas.Option.{none-some}
 use Rattle.cel_value.specs.Types.{ValueType}
 use Rattle.cel_overload.specs.Functions.{function_named}
 use Rattle.cel_overload.specs.Overloads.{CallFault, IsCall, IsOverload}
-use Rattle.cel_overload.specs.steps.Choosing.{Choice, choose}
+use Rattle.cel_overload.specs.private.Choosing.{Choice, choose}
 use Rattle.cel_overload.specs.declared.function.Function.{Function}
 use Rattle.cel_overload.specs.declared.overload.Overload.{Overload}
 use Rattle.cel_overload.specs.declared.overload.OverloadFault.{OverloadFault}

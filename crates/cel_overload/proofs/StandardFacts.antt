@@ -11,7 +11,7 @@ use Rattle.cel_ops.specs.declared.comparison.CompareOp.TheVariants.{Equal, Less}
 use Rattle.cel_ops.specs.declared.conversion.Conversion.TheVariants.{UintToInt, IntToText, BytesToText}
 use Rattle.cel_ops.specs.declared.texts.TextTest.TheVariants.{StartsWith}
 use Rattle.cel_overload.specs.Answers.{function_answer, overload_answer}
-use Rattle.cel_overload.specs.steps.Charges.{overload_charge}
+use Rattle.cel_overload.specs.private.Charges.{overload_charge}
 use Rattle.cel_overload.specs.Functions.{function_named}
 use Rattle.cel_overload.specs.Overloads.{CallFault, IsCall}
 use Rattle.cel_overload.specs.declared.function.Function.TheVariants as functions

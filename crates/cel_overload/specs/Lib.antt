@@ -2,4 +2,4 @@ pub mod Functions
 pub mod Overloads
 pub mod Answers
 pub mod View
-pub mod steps
+pub mod private

@@ -3,7 +3,7 @@
 ghost use Rattle.std.specs.Prelude.{◌≡◌};
 ghost use Rattle.cel_value.specs.Texts.{points_of};
 ghost use Rattle.cel_overload.specs.Functions.{function_at, function_named, may_take};
-ghost use Rattle.cel_overload.specs.steps.View.{names_view};
+ghost use Rattle.cel_overload.specs.private.View.{names_view};
 
 use cel_ops::{ArithmeticOp, CompareOp, TextTest};
 

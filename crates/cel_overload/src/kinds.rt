@@ -2,7 +2,7 @@
 
 ghost use Rattle.std.specs.Prelude.{◌≡◌};
 ghost use Rattle.cel_value.specs.Types.{type_eq, type_of_key, type_view};
-ghost use Rattle.cel_overload.specs.steps.Choosing.{is_joined, is_number, is_sized};
+ghost use Rattle.cel_overload.specs.private.Choosing.{is_joined, is_number, is_sized};
 
 use cel_value::{CelType, KeyType};
 

@@ -6,8 +6,8 @@ ghost use Rattle.cel_value.specs.Types.{key_type_eq, type_eq, type_of_key, type_
 ghost use Rattle.cel_overload.specs.Overloads.{CallFault, IsCall};
 ghost use Rattle.cel_overload.specs.View.{result_view, types_of};
 ghost use Rattle.cel_overload.specs.declared.overload.Overload.TheVariants.{Operate};
-ghost use Rattle.cel_overload.specs.steps.View.{found_view};
-ghost use Rattle.cel_overload.specs.steps.Choosing.{are_both, choose, choose_arithmetic, choose_binary, choose_comparison, choose_in, choose_index, choose_ternary, choose_to_text, choose_unary, when};
+ghost use Rattle.cel_overload.specs.private.View.{found_view};
+ghost use Rattle.cel_overload.specs.private.Choosing.{are_both, choose, choose_arithmetic, choose_binary, choose_comparison, choose_in, choose_index, choose_ternary, choose_to_text, choose_unary, when};
 
 use crate::function::{Function, function_named, may_take};
 use crate::kinds::{has_key_type, is_joined, is_number, is_sized};

@@ -11,7 +11,7 @@ use Rattle.proto_wire.specs.declared.refusal.Refusal.TheVariants.{Missing, TooLa
 use Rattle.proto_wire.proofs.WholeMaps.{map_total, map_disjoint, map_unique}
 use Rattle.cel_tree.specs.Checked.{CelChecked}
 use Rattle.cel_tree.specs.Message.{most_nodes, tree_depth, checked_field, checked_keys, CheckedSays, CheckedLacks, CheckedWrong, in_tree, in_nodes, in_types, in_refs, IsChecked, CheckedFault, IsUnchecked, UncheckedFault, ExprParts, checked_parts, unchecked_parts, IsExprOf, ExprFault, ArePresent}
-use Rattle.cel_tree.specs.steps.Values.{ValuesFault}
+use Rattle.cel_tree.specs.private.Values.{ValuesFault}
 use Rattle.cel_tree.specs.References.{IsReference, ReferenceFault}
 use Rattle.cel_tree.specs.Tree.{CelTree}
 use Rattle.cel_tree.specs.Nodes.{node_kinds, MemberSays}

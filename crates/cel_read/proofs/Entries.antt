@@ -4,10 +4,10 @@ use Rattle.proto_wire.specs.Fields.{Wire}
 use Rattle.proto_wire.specs.Merge.{parts_view}
 use Rattle.proto_wire.specs.declared.refusal.Refusal.{Refusal}
 use Rattle.proto_wire.specs.declared.refusal.Refusal.TheVariants.{Missing, Unsupported}
-use Rattle.cel_tree.specs.steps.Values.{ValuesFault}
+use Rattle.cel_tree.specs.private.Values.{ValuesFault}
 use Rattle.proto_wire.specs.Oneof.{last_number}
 use Rattle.cel_tree.specs.Nodes.{entry_field, key_members, EntryLacks, EntryWrong, key_of_message, IsMapEntry, AreEntries}
-use Rattle.cel_read.specs.steps.EntryViews.{entry_node_view, entry_nodes_view}
+use Rattle.cel_read.specs.private.EntryViews.{entry_node_view, entry_nodes_view}
 use Rattle.cel_read.specs.declared.parsed.EntryNode.{EntryNode}
 
 -- no key counts, or that of a message

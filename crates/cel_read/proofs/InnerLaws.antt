@@ -6,7 +6,7 @@ use Rattle.proto_wire.specs.Values.{payloads}
 use Rattle.proto_wire.specs.declared.refusal.Refusal.{Refusal}
 use Rattle.proto_wire.proofs.Unique.{merges_unique}
 use Rattle.cel_tree.specs.TypeEntries.{TypeNode, plain, list_of, map_of, map_type_field, type_kinds, TypeSays, IsOfOtherKind, IsTypeNode, InTypeKind, IsInner}
-use Rattle.cel_read.specs.steps.InnerTypes.{HoldsFault}
+use Rattle.cel_read.specs.private.InnerTypes.{HoldsFault}
 use Rattle.cel_tree.specs.declared.kinds.TypeKind.{TypeKind}
 use Rattle.cel_tree.specs.declared.kinds.TypeKind.TheVariants as kinds
 use Rattle.cel_read.proofs.Standing.{stands, stood}

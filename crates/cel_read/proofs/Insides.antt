@@ -13,10 +13,10 @@ use Rattle.cel_tree.specs.Nodes as nodes
 use Rattle.cel_tree.specs.Nodes.{Parts, Node, constant_node, ident_node, select_node, call_node, map_node, loop_node, children, entry_children, if_there, singles, IsNode}
 use Rattle.cel_tree.specs.Trees.{MadeEntries, AreTrees, IsTree, node_count, trees_count, entries_count}
 use Rattle.cel_tree.specs.View.{constant_view, tree_view, loop_of, target_of, LoopParts}
-use Rattle.cel_tree.specs.steps.TreeViews.{trees_view, tree_entries_view, loop_view, boxed_view}
-use Rattle.cel_read.specs.steps.EntryViews.{entry_nodes_view}
+use Rattle.cel_tree.specs.private.TreeViews.{trees_view, tree_entries_view, loop_view, boxed_view}
+use Rattle.cel_read.specs.private.EntryViews.{entry_nodes_view}
 use Rattle.cel_read.specs.Places.{NamesExpr, OwnFault, SomeFaultAt, TreeFaultAt}
-use Rattle.cel_read.specs.steps.Inside.{Inside, IsTarget, target_nodes, EntryTrees, AreEntryTrees, AreLoopTrees, AreTwoTrees}
+use Rattle.cel_read.specs.private.Inside.{Inside, IsTarget, target_nodes, EntryTrees, AreEntryTrees, AreLoopTrees, AreTwoTrees}
 use Rattle.cel_read.specs.declared.parsed.EntryNode.{EntryNode}
 use Rattle.cel_tree.specs.declared.tree.Constant as constants
 use Rattle.cel_tree.specs.declared.tree.TreeEntry.{TreeEntry}

@@ -8,7 +8,7 @@ use Rattle.proto_wire.specs.Merge.{parts_view}
 use Rattle.proto_wire.proofs.MapOrder.{tie, find_at}
 use Rattle.smallvec.specs.SmallVec.{SmallVec}
 use Rattle.std.proofs.lemmas.List.{take_more, map-append}
-use Rattle.cel_read.specs.steps.Named.{SomeValues, ids_view}
+use Rattle.cel_read.specs.private.Named.{SomeValues, ids_view}
 
 -- what the next entry of a list in order has stands at its id
 pub found_next : (named : List (ℤ × SmallVec (Bor (List ℕ)))) (i : ℕ) (e : ℤ × SmallVec (Bor (List ℕ))) → e ≡ get_or named i e

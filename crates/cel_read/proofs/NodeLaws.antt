@@ -8,7 +8,7 @@ use Rattle.proto_wire.specs.declared.refusal.Refusal.TheVariants.{BadText, Missi
 use Rattle.cel_value.specs.Texts.{points_of}
 use Rattle.cel_tree.specs.Nodes.{EntryNode, Node, constant_node, ident_node, select_node, call_node, list_node, map_node, loop_node, ident_keys, IdentSays, IdentWrong, select_keys, SelectSays, SelectLacks, SelectWrong, call_keys, CallSays, CallWrong, list_keys, ListSays, ListWrong, key_members, entry_keys, EntrySays, EntryLacks, EntryWrong, optional, key_of_message, IsMapEntry, MapEntryFault, AreEntries, struct_keys, StructSays, StructWrong, bad_name, of_message, in_entry, loop_keys, NamesRead, PartsThere, loop_at, LoopSays, LacksPart, no_range, no_init, no_condition, no_step, no_result, LoopLacks, LoopWrong, bad_iter_var, bad_accu_var, bad_second_name, node_kinds, node_keys, KindSays, KindFault, MemberSays, MemberFails, NodeSays, IsNode, NodeFault, ident_field, select_field, call_field, list_field, entry_field, struct_field, loop_field, node_field}
 use Rattle.cel_tree.specs.Reading.{LacksNothing, Never, LacksMember, IsUnsupported, OneofFault}
-use Rattle.cel_tree.specs.steps.Values.{ValuesFault}
+use Rattle.cel_tree.specs.private.Values.{ValuesFault}
 use Rattle.cel_tree.specs.declared.kinds.NodeKind.{NodeKind}
 use Rattle.cel_tree.specs.declared.kinds.NodeKind.TheVariants as kinds
 use Rattle.cel_read.proofs.Basics.{nil_or_not, empty_text, same_or_not, utf8_total, contains_first, contains_later, contains_cases}

@@ -9,7 +9,7 @@ use Rattle.cel_tree.specs.Message as messages
 use Rattle.cel_tree.specs.Nodes.{Parts, children}
 use Rattle.cel_tree.specs.Reading as reading
 use Rattle.cel_tree.specs.Trees.{in_node}
-use Rattle.cel_tree.specs.steps.Values.{ValuesFault}
+use Rattle.cel_tree.specs.private.Values.{ValuesFault}
 use Rattle.cel_tree.proofs.Readers.{values_fault}
 use Rattle.cel_read.specs.Places.{OwnFault, too_deep, too_many, of_message, TreeFaultAt, SomeFaultAt, MapFaultAt, of_payload, of_value, CheckedWrongAt, no_expr, in_expr, in_types, in_refs, CheckedFaultAt, of_fields, in_fields, ExprFaultAt}
 use Rattle.cel_read.proofs.Counting.{TreeFails, SomeFails, node_fails, one_there}

@@ -10,7 +10,7 @@ use Rattle.proto_wire.specs.declared.refusal.Refusal.TheVariants.{Missing, Unsup
 use Rattle.proto_wire.proofs.Messages.{message_total, message_disjoint}
 use Rattle.proto_wire.proofs.Unique.{merges_unique}
 use Rattle.cel_tree.specs.Reading.{Reads, ReadFault, in_fields, lacking, in_values, OneofSays, Never, OneofFault, IsUnsupported, LacksMember}
-use Rattle.cel_tree.specs.steps.Values.{ValuesFault}
+use Rattle.cel_tree.specs.private.Values.{ValuesFault}
 use Rattle.cel_tree.proofs.Readers.{values_fault}
 
 module _ {T : Type 0} (keys : List Key) (Says : List Wire → T → Type 0) where

@@ -10,7 +10,7 @@ use Rattle.cel_value.specs.Texts.{points_of}
 use Rattle.cel_value.specs.Values.{CelValue}
 use Rattle.cel_tree.specs.Checked.{CelReference}
 use Rattle.cel_tree.specs.Reading.{LacksNothing}
-use Rattle.cel_tree.specs.steps.Values.{ValuesFault}
+use Rattle.cel_tree.specs.private.Values.{ValuesFault}
 use Rattle.cel_tree.specs.References.{reference_field, reference_keys, IsValue, ValueFault, ReferenceSays, ReferenceWrong, bad_name, bad_id, in_value, IsReference, ReferenceFault}
 use Rattle.cel_read.proofs.Basics.{utf8_total, contains_first, contains_later, contains_cases}
 use Rattle.cel_read.proofs.ConstantLaws.{constant_total, constant_disjoint, constant_unique}

@@ -9,7 +9,7 @@ use Rattle.std.specs.FinMap.{entries, from_entries}
 use Rattle.proto_wire.specs.Fields.{Payload, varint, i64, len, i32, Wire, StartsField, Fields}
 use Rattle.proto_wire.specs.Merge.{Merges}
 use Rattle.proto_wire.specs.Maps.{Entry, int64, map_of}
-use Rattle.proto_wire.specs.steps.Maps.{Held}
+use Rattle.proto_wire.specs.private.Maps.{Held}
 use Rattle.proto_wire.specs.declared.refusal.Refusal.TheVariants.{Missing, Unsupported}
 use Rattle.proto_wire.proofs.MapOrder.{both_first, both_second, entries_from_entries}
 use Rattle.proto_wire.proofs.MapValues.{held_are_values}

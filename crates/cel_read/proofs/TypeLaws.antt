@@ -8,9 +8,9 @@ use Rattle.proto_wire.specs.declared.refusal.Refusal.{Refusal}
 use Rattle.proto_wire.specs.declared.refusal.Refusal.TheVariants.{OutOfRange, TooLarge}
 use Rattle.cel_tree.specs.Checked.{CelTypeEntry, dyn_type, unsupported_type}
 use Rattle.cel_tree.specs.Reading.{LacksNothing, OneofSays, Never, OneofFault}
-use Rattle.cel_tree.specs.steps.Values.{ValuesFault}
+use Rattle.cel_tree.specs.private.Values.{ValuesFault}
 use Rattle.cel_tree.specs.TypeEntries.{list_entry, map_entry, primitive_of, TypeNode, plain, list_of, map_of, type_kinds, type_keys, list_type_field, map_type_field, list_type_keys, map_type_keys, ListTypeSays, ListTypeWrong, MapTypeSays, MapTypeWrong, TypeSays, TypeFails, IsOfOtherKind, IsTypeNode, TypeNodeFault, MeansEntry, IsTypeEntry, in_type, in_inner, TypeEntryFault}
-use Rattle.cel_read.specs.steps.InnerTypes.{HoldsFault}
+use Rattle.cel_read.specs.private.InnerTypes.{HoldsFault}
 use Rattle.cel_tree.specs.declared.kinds.TypeKind.{TypeKind}
 use Rattle.cel_tree.specs.declared.kinds.TypeKind.TheVariants as kinds
 use Rattle.cel_read.proofs.Basics.{nil_or_not}

@@ -3,7 +3,7 @@ use Rattle.std.proofs.Common.{◌≡◌, ◌-◌, ◌<◌, ℕ, zero, suc, List,
 use Rattle.proto_wire.specs.declared.refusal.Refusal.{Refusal}
 use Rattle.cel_tree.specs.Checked.{CelTypeEntry}
 use Rattle.cel_tree.specs.TypeEntries.{TypeNode, IsTypeNode, MeansEntry, IsTypeEntry, TypeNodeFault, in_type, in_inner, TypeEntryFault}
-use Rattle.cel_read.specs.steps.InnerTypes.{HoldsFault}
+use Rattle.cel_read.specs.private.InnerTypes.{HoldsFault}
 use Rattle.cel_read.proofs.InnerLaws.{inner_fault}
 
 pub type_found : (depth : ℕ) (parts : List (List ℕ)) (node : TypeNode) (entry : CelTypeEntry) → 0 < depth

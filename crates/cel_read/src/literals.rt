@@ -8,10 +8,10 @@ ghost use Rattle.proto_wire.specs.Values.{has_field, bool_at, bytes_at, payloads
 ghost use Rattle.proto_wire.specs.declared.refusal.Refusal.TheVariants.{Missing, Unsupported};
 ghost use Rattle.cel_tree.specs.Nodes.{list_field, list_keys, ListSays, ListWrong, entry_field, key_members, EntrySays, EntryLacks, EntryWrong, IsMapEntry, MapEntryFault, AreEntries, struct_field, struct_keys, StructSays, StructWrong};
 ghost use Rattle.cel_tree.specs.Reading.{Reads, ReadFault, LacksNothing};
-ghost use Rattle.cel_tree.specs.steps.Values.{ValuesFault};
+ghost use Rattle.cel_tree.specs.private.Values.{ValuesFault};
 ghost use Rattle.proto_wire.specs.Oneof.{last_number};
-ghost use Rattle.cel_read.specs.steps.NodeViews.{node_view};
-ghost use Rattle.cel_read.specs.steps.EntryViews.{entry_node_view, entry_nodes_view};
+ghost use Rattle.cel_read.specs.private.NodeViews.{node_view};
+ghost use Rattle.cel_read.specs.private.EntryViews.{entry_node_view, entry_nodes_view};
 
 use crate::fields::run_payloads;
 use crate::parsed::{EntryNode, Node};

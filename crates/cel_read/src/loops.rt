@@ -8,8 +8,8 @@ ghost use Rattle.proto_wire.specs.Values.{payloads};
 ghost use Rattle.proto_wire.specs.declared.refusal.Refusal.TheVariants.{Missing};
 ghost use Rattle.cel_tree.specs.Nodes.{loop_field, loop_keys, NamesRead, PartsThere, LacksPart, LoopSays, LoopLacks, LoopWrong};
 ghost use Rattle.cel_tree.specs.Reading.{Reads, ReadFault};
-ghost use Rattle.cel_tree.specs.steps.Values.{ValuesFault};
-ghost use Rattle.cel_read.specs.steps.NodeViews.{node_view};
+ghost use Rattle.cel_tree.specs.private.Values.{ValuesFault};
+ghost use Rattle.cel_read.specs.private.NodeViews.{node_view};
 
 use crate::fields::{name_at, two_payloads_of};
 use crate::parsed::{LoopNode, Node};

@@ -13,7 +13,7 @@ ghost use Rattle.cel_tree.specs.References.{IsReference, ReferenceFault};
 ghost use Rattle.cel_tree.specs.TypeEntries.{IsTypeEntry, TypeEntryFault};
 ghost use Rattle.cel_tree.specs.View.{references_view, types_view};
 ghost use Rattle.cel_read.specs.Places.{MapFaultAt, ValueFaultAt};
-ghost use Rattle.cel_read.specs.steps.Named.{SomeValues, ids_view};
+ghost use Rattle.cel_read.specs.private.Named.{SomeValues, ids_view};
 
 use crate::fields::number_of;
 use crate::reference::read_reference;

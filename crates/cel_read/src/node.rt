@@ -8,9 +8,9 @@ ghost use Rattle.proto_wire.specs.declared.refusal.Refusal.TheVariants.{Missing,
 ghost use Rattle.cel_value.specs.Types.{IsInt64};
 ghost use Rattle.cel_tree.specs.Nodes.{node_kinds, kind_keys, KindSays, KindFault, MemberSays, MemberFails, NodeSays, IsNode, NodeFault};
 ghost use Rattle.cel_tree.specs.Reading.{LacksMember, IsUnsupported, OneofFault};
-ghost use Rattle.cel_tree.specs.steps.Values.{ValuesFault};
+ghost use Rattle.cel_tree.specs.private.Values.{ValuesFault};
 ghost use Rattle.proto_wire.specs.Oneof.{last_number, member_in, member_run};
-ghost use Rattle.cel_read.specs.steps.NodeViews.{node_view, numbered_view};
+ghost use Rattle.cel_read.specs.private.NodeViews.{node_view, numbered_view};
 
 use crate::constant::read_constant;
 use crate::fields::run_payloads;

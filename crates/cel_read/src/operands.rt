@@ -6,8 +6,8 @@ ghost use Rattle.proto_wire.specs.Merge.{parts_view};
 ghost use Rattle.proto_wire.specs.Refusal.{MemoryOr};
 ghost use Rattle.cel_tree.specs.Nodes.{ident_keys, IdentSays, IdentWrong, select_keys, SelectSays, SelectLacks, SelectWrong, call_keys, CallSays, CallWrong};
 ghost use Rattle.cel_tree.specs.Reading.{Reads, ReadFault, LacksNothing};
-ghost use Rattle.cel_tree.specs.steps.Values.{ValuesFault};
-ghost use Rattle.cel_read.specs.steps.NodeViews.{node_view};
+ghost use Rattle.cel_tree.specs.private.Values.{ValuesFault};
+ghost use Rattle.cel_read.specs.private.NodeViews.{node_view};
 
 use crate::fields::{name_at, two_payloads_of};
 use crate::parsed::Node;

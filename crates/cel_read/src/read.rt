@@ -11,11 +11,11 @@ ghost use Rattle.cel_tree.specs.Places.{PlacedOr};
 ghost use Rattle.cel_tree.specs.Nodes.{IsNode, select_node, call_node, list_node, map_node, loop_node, children, entry_children, if_there, loop_children, singles};
 ghost use Rattle.cel_tree.specs.Trees.{IsTree, AreTrees, node_count, trees_count};
 ghost use Rattle.cel_tree.specs.View.{tree_view};
-ghost use Rattle.cel_tree.specs.steps.TreeViews.{trees_view, tree_entries_view, loop_view, boxed_view};
+ghost use Rattle.cel_tree.specs.private.TreeViews.{trees_view, tree_entries_view, loop_view, boxed_view};
 ghost use Rattle.cel_read.specs.Places.{OwnFault, SomeFaultAt, TreeFaultAt};
-ghost use Rattle.cel_read.specs.steps.EntryViews.{entry_nodes_view};
-ghost use Rattle.cel_read.specs.steps.Inside.{AreEntryTrees, AreLoopTrees, AreTwoTrees, Inside, IsLoopBody, IsTarget, loop_body, target_nodes};
-ghost use Rattle.cel_read.specs.steps.NodeViews.{loop_node_view, node_view};
+ghost use Rattle.cel_read.specs.private.EntryViews.{entry_nodes_view};
+ghost use Rattle.cel_read.specs.private.Inside.{AreEntryTrees, AreLoopTrees, AreTwoTrees, Inside, IsLoopBody, IsTarget, loop_body, target_nodes};
+ghost use Rattle.cel_read.specs.private.NodeViews.{loop_node_view, node_view};
 
 use crate::fields::number_of;
 use crate::node::read_node;

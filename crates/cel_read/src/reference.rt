@@ -9,7 +9,7 @@ ghost use Rattle.proto_wire.specs.Refusal.{MemoryOr};
 ghost use Rattle.proto_wire.specs.Values.{payloads, Utf8Fault};
 ghost use Rattle.cel_value.specs.Texts.{points_of};
 ghost use Rattle.cel_tree.specs.Reading.{LacksNothing};
-ghost use Rattle.cel_tree.specs.steps.Values.{ValuesFault};
+ghost use Rattle.cel_tree.specs.private.Values.{ValuesFault};
 ghost use Rattle.cel_tree.specs.References.{reference_field, ReferenceSays, ReferenceWrong, IsReference, ReferenceFault, IsValue, ValueFault};
 ghost use Rattle.cel_tree.specs.View.{constant_view, name_view, reference_view};
 

@@ -6,8 +6,8 @@ ghost use Rattle.proto_wire.specs.Refusal.{MemoryOr};
 ghost use Rattle.cel_value.specs.Types.{type_view};
 ghost use Rattle.cel_tree.specs.TypeEntries.{list_of, map_of, list_entry, map_entry, MeansEntry, IsTypeEntry, TypeEntryFault};
 ghost use Rattle.cel_tree.specs.View.{type_entry_view};
-ghost use Rattle.cel_read.specs.steps.InnerTypes.{HoldsFault};
-ghost use Rattle.cel_read.specs.steps.NodeViews.{type_node_view};
+ghost use Rattle.cel_read.specs.private.InnerTypes.{HoldsFault};
+ghost use Rattle.cel_read.specs.private.NodeViews.{type_node_view};
 
 use crate::type_node::{TypeNode, read_type_node};
 use cel_tree::TypeEntry;

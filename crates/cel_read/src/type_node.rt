@@ -7,11 +7,11 @@ ghost use Rattle.proto_wire.specs.Refusal.{MemoryOr};
 ghost use Rattle.proto_wire.specs.Values.{payloads};
 ghost use Rattle.proto_wire.specs.declared.refusal.Refusal.TheVariants.{OutOfRange};
 ghost use Rattle.cel_tree.specs.Reading.{Reads, ReadFault, LacksNothing, OneofSays, Never, OneofFault};
-ghost use Rattle.cel_tree.specs.steps.Values.{ValuesFault};
+ghost use Rattle.cel_tree.specs.private.Values.{ValuesFault};
 ghost use Rattle.proto_wire.specs.Oneof.{last_number, member_in};
 ghost use Rattle.cel_tree.specs.TypeEntries.{type_kinds, type_keys, list_type_keys, map_type_keys, primitive_of, ListTypeSays, ListTypeWrong, MapTypeSays, MapTypeWrong, TypeSays, TypeFails, IsOfOtherKind, IsTypeNode, TypeNodeFault};
 ghost use Rattle.cel_tree.specs.View.{type_entry_view};
-ghost use Rattle.cel_read.specs.steps.NodeViews.{type_node_view};
+ghost use Rattle.cel_read.specs.private.NodeViews.{type_node_view};
 
 use crate::fields::two_payloads_of;
 use cel_tree::{TypeEntry, TypeKind};

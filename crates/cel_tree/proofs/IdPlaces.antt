@@ -9,7 +9,7 @@ use Rattle.std.specs.declared.cmp.Ordering.{Ordering}
 use Rattle.std.specs.declared.cmp.Ordering.TheVariants.{Less, Equal, Greater}
 use Rattle.std.proofs.lemmas.List.{take-append-drop}
 use Rattle.proto_wire.proofs.MapOrder.{both_first, both_second, lt_is_less}
-use Rattle.cel_tree.specs.steps.Places.{AllAbove, AllBelow, IsPlace, StartsAbove, starts_with}
+use Rattle.cel_tree.specs.private.Places.{AllAbove, AllBelow, IsPlace, StartsAbove, starts_with}
 pub use Rattle.cel_value.proofs.Places.{is_lt_less as is_less}
 
 -- ---- orders of two ids, turned round

@@ -11,4 +11,4 @@ pub mod Message
 pub mod GoodConstants
 pub mod Ids
 pub mod Places
-pub mod steps
+pub mod private

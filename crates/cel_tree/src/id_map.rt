@@ -4,7 +4,7 @@ ghost use Rattle.std.specs.Prelude.{◌≡◌, ◌<◌, [], IsTrue, T, MatchResu
 ghost use Rattle.std.specs.FinMap.{find, is_sorted, put};
 ghost use Rattle.std.specs.Option.{option_copied};
 ghost use Rattle.std.specs.Ordering.{int_cmp};
-ghost use Rattle.cel_tree.specs.steps.Places.{IsPlace, starts_with};
+ghost use Rattle.cel_tree.specs.private.Places.{IsPlace, starts_with};
 
 use std::alloc::{AllocError, Global};
 use std::cmp::Ordering;

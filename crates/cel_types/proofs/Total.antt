@@ -9,7 +9,7 @@ use Rattle.proto_wire.specs.declared.refusal.Refusal.{Refusal}
 use Rattle.proto_wire.specs.declared.refusal.Refusal.TheVariants.{BadTypeEntry, Missing, NeedsType, NoOverload, OutOfRange, Unsupported, UnknownName}
 use Rattle.cel_value.specs.Values.{CelValue}
 use Rattle.cel_value.specs.Types.{ValueType, bool_type, int_type, uint_type, text_type, bytes_type, list_type, map_type, type_eq, type_of_key}
-use Rattle.cel_value.specs.steps.EqualityLaws.{type_eq_decides}
+use Rattle.cel_value.specs.private.EqualityLaws.{type_eq_decides}
 use Rattle.cel_value.specs.declared.cel_type.KeyType.{KeyType}
 use Rattle.cel_value.specs.declared.cel_type.KeyType.TheVariants as keys
 use Rattle.cel_tree.specs.Checked.{CelReference, CelTypeEntry, of_type, dyn_type, unsupported_type}

@@ -5,7 +5,7 @@ use Rattle.std.specs.declared.boxed.Box.{Box}
 use Rattle.std.specs.declared.vec.Vec.{Vec}
 use Rattle.cel_tree.specs.Tree.{call, ident, map_literal}
 use Rattle.cel_tree.specs.View.{loop_of as tree_loop, target_of, tree_view}
-use Rattle.cel_tree.specs.steps.TreeViews.{boxed_view, loop_view, tree_entries_view, trees_view}
+use Rattle.cel_tree.specs.private.TreeViews.{boxed_view, loop_view, tree_entries_view, trees_view}
 use Rattle.cel_tree.specs.declared.tree.Comprehension.{Comprehension}
 use Rattle.cel_tree.specs.declared.tree.Tree.{Tree, the_lemmas as tree_lemmas}
 use Rattle.cel_tree.specs.declared.tree.Tree as trees

@@ -8,4 +8,4 @@ pub mod Elaborated
 pub mod TypedMeaning
 pub mod WellTyped
 pub mod View
-pub mod steps
+pub mod private

@@ -7,7 +7,7 @@ use Rattle.std.proofs.lemmas.Bool.{cases_Bool}
 use Rattle.cel_value.specs.Values.{CelKey, CelValue, CelEntries, no_entries, entry}
 use Rattle.cel_value.specs.Keys.{get, key_cmp, AllAbove, IsAscending}
 use Rattle.cel_value.specs.Equality.{key_eq}
-use Rattle.cel_value.specs.steps.EqualityLaws.{key_eq_decides}
+use Rattle.cel_value.specs.private.EqualityLaws.{key_eq_decides}
 use Rattle.cel_value.proofs.Places.{key_eq_cmp, key_cmp_antisymm, above_lower}
 
 less_apart : (k j : CelKey) → key_cmp k j ≡ Less → key_eq j k ≡ false

@@ -16,7 +16,7 @@ use Rattle.cel_value.specs.Values.{CelKey, bool_key, int_key, uint_key, text_key
 use Rattle.cel_value.specs.Keys.{get, key_cmp, AllAbove, IsAscending, is_ascending, put}
 use Rattle.cel_value.specs.Equality.{key_eq}
 use Rattle.std.proofs.lemmas.Bool.{cases_Bool, false_from_ne_true}
-use Rattle.cel_value.specs.steps.EqualityLaws.{key_eq_decides}
+use Rattle.cel_value.specs.private.EqualityLaws.{key_eq_decides}
 
 bool_ties : (a b : Bool) → beq a b ≡ is_eq (bool_cmp a b)
 bool_ties true true = refl

@@ -8,7 +8,7 @@ use Rattle.std.proofs.lemmas.Bool.Decides.{same_from_decides}
 use Rattle.cel_value.specs.Values.{CelValues, no_items, item, CelEntries, no_entries, entry}
 use Rattle.cel_value.specs.Masses.{item_count, entry_count}
 use Rattle.cel_value.specs.Equality.{key_eq, value_eq, values_eq, entries_eq}
-use Rattle.cel_value.specs.steps.EqualityLaws.{entries_eq_decides}
+use Rattle.cel_value.specs.private.EqualityLaws.{entries_eq_decides}
 
 -- texts are the same where their bytes are
 pub chars_same : (bs ds : List ℕ) → IsUtf8 bs → IsUtf8 ds → pointwise nat_eq bs ds

@@ -13,7 +13,7 @@ use denote.Ref.{Bor}
 use Rattle.cel_value.specs.Values.{CelKey, CelValue, CelEntries, no_entries, entry}
 use Rattle.cel_value.specs.Keys.{get, key_cmp, AllAbove, IsAscending, put}
 use Rattle.cel_value.specs.Equality.{key_eq}
-use Rattle.cel_value.specs.steps.EqualityLaws.{key_eq_decides}
+use Rattle.cel_value.specs.private.EqualityLaws.{key_eq_decides}
 use Rattle.cel_value.proofs.Places.{key_eq_cmp, key_cmp_total}
 
 -- entries made of any items that have a key and a value

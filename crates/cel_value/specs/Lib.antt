@@ -7,4 +7,4 @@ pub mod Equality
 pub mod Types
 pub mod Masses
 pub mod Names
-pub mod steps
+pub mod private

@@ -2,7 +2,7 @@
 
 ghost use Rattle.std.specs.Prelude.{◌≡◌, IfOk};
 ghost use Rattle.std.specs.Cmp.{on_equiv, on_per, partial_equiv_from_equiv};
-ghost use Rattle.cel_value.specs.steps.EqualityLaws.{type_eq_equiv};
+ghost use Rattle.cel_value.specs.private.EqualityLaws.{type_eq_equiv};
 ghost use Rattle.cel_value.specs.Types.{is_ordered, key_type_eq, key_type_of, type_eq, type_view};
 
 use std::alloc::AllocError;

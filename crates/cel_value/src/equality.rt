@@ -3,7 +3,7 @@
 ghost use Rattle.std.specs.Prelude.{◌≡◌, ◌&&◌, nat_eq};
 ghost use Rattle.std.specs.Cmp.Lexicographic.{pointwise};
 ghost use Rattle.std.specs.Cmp.{on_equiv, on_per, partial_equiv_from_equiv};
-ghost use Rattle.cel_value.specs.steps.EqualityLaws.{key_eq_equiv, value_eq_equiv};
+ghost use Rattle.cel_value.specs.private.EqualityLaws.{key_eq_equiv, value_eq_equiv};
 ghost use Rattle.cel_value.specs.Equality.{entries_eq, key_eq, value_eq, values_eq};
 ghost use Rattle.cel_value.specs.Texts.{text_view};
 ghost use Rattle.cel_value.specs.Values.{text, text_key};

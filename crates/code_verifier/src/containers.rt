@@ -2,7 +2,7 @@
 
 ghost use Rattle.std.specs.Prelude.{◌≡◌, IfOk, option_map};
 ghost use Rattle.machine_code.specs.Slots.{concat_slot, field_slot, has_field_slot, has_size, in_list_slot, in_map_slot, is_a_key, list_index_slot, map_index_slot, sequence_slot};
-ghost use Rattle.code_verifier.specs.steps.SlotView.{slot_view};
+ghost use Rattle.code_verifier.specs.private.SlotView.{slot_view};
 
 use crate::elements::type_of_key;
 use crate::slot::{Slot, if_type};

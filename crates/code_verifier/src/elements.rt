@@ -3,7 +3,7 @@
 ghost use Rattle.std.specs.Prelude.{◌≡◌, IfOk, option_map};
 ghost use Rattle.cel_value.specs.Types.{type_of_key, type_view};
 ghost use Rattle.machine_code.specs.Slots.{list_of, loop_slot, map_of_slots, pair_slots};
-ghost use Rattle.code_verifier.specs.steps.SlotView.{both_view, slot_view};
+ghost use Rattle.code_verifier.specs.private.SlotView.{both_view, slot_view};
 
 use crate::slot::Slot;
 use cel_value::{CelType, KeyType};

@@ -3,7 +3,7 @@
 ghost use Rattle.std.specs.Prelude.{IfOk};
 ghost use Rattle.machine_code.specs.Instructions.{Jump};
 ghost use Rattle.machine_code.specs.Shapes.{branch, test, ways};
-ghost use Rattle.code_verifier.specs.steps.ShapeView.{AreWaysAt, Stands};
+ghost use Rattle.code_verifier.specs.private.ShapeView.{AreWaysAt, Stands};
 
 use crate::shape::{Due, Point};
 use crate::slot::Slot;

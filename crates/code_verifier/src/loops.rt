@@ -2,7 +2,7 @@
 
 ghost use Rattle.std.specs.Prelude.{IfOk};
 ghost use Rattle.machine_code.specs.Shapes.{loop_next, loop_next2, loop_start, loop_test};
-ghost use Rattle.code_verifier.specs.steps.ShapeView.{AreWaysAt, Stands};
+ghost use Rattle.code_verifier.specs.private.ShapeView.{AreWaysAt, Stands};
 
 use crate::elements::{loop_slot, pair_slots};
 use crate::locals::with_slot;

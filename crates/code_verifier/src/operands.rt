@@ -3,8 +3,8 @@
 ghost use Rattle.std.specs.Prelude.{◌*◌, IfOk};
 ghost use Rattle.machine_code.specs.Slots.{list_literal_slot, map_literal_slot};
 ghost use Rattle.machine_code.specs.Shapes.{binary, literal, unary};
-ghost use Rattle.code_verifier.specs.steps.Results.{binary_slot, unary_slot};
-ghost use Rattle.code_verifier.specs.steps.ShapeView.{AreWaysAt, Stands};
+ghost use Rattle.code_verifier.specs.private.Results.{binary_slot, unary_slot};
+ghost use Rattle.code_verifier.specs.private.ShapeView.{AreWaysAt, Stands};
 
 use crate::literals::{list_literal, map_literal, take};
 use crate::results::{Binary, Unary, binary_slot, unary_slot};

@@ -6,7 +6,7 @@ ghost use Rattle.cel_value.specs.Values.{int, text, uint};
 ghost use Rattle.machine_code.specs.Attributes.{attribute_slot};
 ghost use Rattle.machine_code.specs.Instructions.{constant_view};
 ghost use Rattle.machine_code.specs.Slots.{constant_slot};
-ghost use Rattle.code_verifier.specs.steps.SlotView.{slot_view};
+ghost use Rattle.code_verifier.specs.private.SlotView.{slot_view};
 
 use crate::slot::Slot;
 use attributes::{AttrId, AttrType, attr_type};

@@ -2,9 +2,9 @@
 
 ghost use Rattle.std.specs.Prelude.{◌≡◌, ◌<◌, Some, [], ◌∷◌, length, IfOk, option_map};
 ghost use Rattle.machine_code.specs.Shapes.{leaves};
-ghost use Rattle.code_verifier.specs.steps.ShapeView.{AreWaysAt, Stands};
-ghost use Rattle.code_verifier.specs.steps.SlotView.{slot_view};
-ghost use Rattle.code_verifier.specs.steps.Stacks.{stack_at};
+ghost use Rattle.code_verifier.specs.private.ShapeView.{AreWaysAt, Stands};
+ghost use Rattle.code_verifier.specs.private.SlotView.{slot_view};
+ghost use Rattle.code_verifier.specs.private.Stacks.{stack_at};
 
 use crate::shape::{Due, Point, Shape};
 use crate::slot::Slot;

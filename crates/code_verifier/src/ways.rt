@@ -4,8 +4,8 @@ ghost use Rattle.std.specs.Prelude.{Some, IfOk, option_map};
 ghost use Rattle.machine_code.specs.Instructions.{instr_view};
 ghost use Rattle.machine_code.specs.Slots.{slots_of};
 ghost use Rattle.machine_code.specs.Shapes.{leaves, operate, store, ways};
-ghost use Rattle.code_verifier.specs.steps.ShapeView.{AreWaysAt, Stands};
-ghost use Rattle.code_verifier.specs.steps.SlotView.{slot_view};
+ghost use Rattle.code_verifier.specs.private.ShapeView.{AreWaysAt, Stands};
+ghost use Rattle.code_verifier.specs.private.SlotView.{slot_view};
 
 use crate::jumps::{branch_ways, jump_ways, test_ways};
 use crate::literals::{empty_list, empty_map};

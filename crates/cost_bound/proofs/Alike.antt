@@ -10,7 +10,7 @@ use Rattle.cel_types.specs.declared.typed.Variables.{Variables}
 use Rattle.cel_types.specs.declared.typed.Variables.TheVariants as variables
 use Rattle.cel_costs.specs.Costs.{call_cost, call_size, cost_of, costs_of, field_cost, grown, known, list_size, map_cost, map_size, size_of, sizes_of, total, turns_cost, value_size, variable_sizes}
 use Rattle.cel_costs.specs.Sizes.{Size, join, most_of}
-use Rattle.cost_bound.specs.steps.Memos.{EachNamesOnly, InTurns, IsSettled, IsSteady, NamesOnly}
+use Rattle.cost_bound.specs.private.Memos.{EachNamesOnly, InTurns, IsSettled, IsSteady, NamesOnly}
 
 -- two lists of sizes, of as many locals, that say the same of these
 pub record Alike (N : ℕ → Type 0) (a b : List Size) : Type 0 where

@@ -8,7 +8,7 @@ use Rattle.cel_overload.specs.declared.overload.Overload.TheVariants as overload
 use Rattle.cel_value.specs.Types.{ValueType}
 use Rattle.cel_costs.specs.Sizes.{Size, Flat}
 use Rattle.cel_costs.specs.Costs.{call_cost, call_size, charge_at, total}
-use Rattle.cost_bound.specs.steps.Measuring.{call_part}
+use Rattle.cost_bound.specs.private.Measuring.{call_part}
 pub use Rattle.cel_costs.proofs.Charged.{charge_some}
 
 -- a charge is one and the rest of it

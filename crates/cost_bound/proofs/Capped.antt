@@ -3,7 +3,7 @@
 use Rattle.std.proofs.Common.{◌≡◌, ℕ, zero, suc, ◌+◌, ◌*◌, ◌-◌, ◌<◌, ◌≤◌, ◌^◌, refl, sym, ◌∙◌, arith, inl, inr, mul-zero, mul_comm, mul-one}
 use Rattle.std.proofs.lemmas.Bool.{cases_lt}
 use Rattle.std.proofs.lemmas.Nat.{mul-le}
-use Rattle.cost_bound.specs.steps.Numbers.{capped}
+use Rattle.cost_bound.specs.private.Numbers.{capped}
 
 -- a number of 64 bits is itself
 pub capped_same : (n : ℕ) → n < 2 ^ 64 → capped n ≡ n

@@ -3,7 +3,7 @@ use Rattle.std.proofs.Common.{◌≡◌, suc, ◌≤◌, List, [], ◌∷◌, le
 use Rattle.cel_ops.specs.declared.operation.Operation.TheVariants as operations
 use Rattle.cel_overload.specs.declared.overload.Overload.TheVariants as overloads
 use Rattle.cel_types.specs.Elaborated.{kinds}
-use Rattle.cel_types.specs.steps.ExprViews.{exprs_view}
+use Rattle.cel_types.specs.private.ExprViews.{exprs_view}
 use Rattle.cel_types.specs.declared.typed.TypedExpr.{TypedExpr}
 use Rattle.cel_value.specs.Types.{ValueType}
 use Rattle.cel_costs.specs.Costs.{charge_at}

@@ -10,7 +10,7 @@ use Rattle.cel_tree.specs.declared.tree.Constant.{Constant}
 use Rattle.cel_tree.specs.View.{constant_view}
 use Rattle.cel_types.specs.Elaborated.{typed_constant, typed_local, typed_attribute, typed_field, typed_has, typed_call, typed_list, typed_map}
 use Rattle.cel_types.specs.View.{expr_view, loop_of}
-use Rattle.cel_types.specs.steps.ExprViews.{exprs_view, parts_view}
+use Rattle.cel_types.specs.private.ExprViews.{exprs_view, parts_view}
 use Rattle.cel_types.specs.declared.typed.TypedExpr.{TypedExpr, Constant as ConstantExpr, Local as LocalExpr, Attribute as AttributeExpr, Field as FieldExpr, HasField as HasExpr, Call as CallExpr, List as ListExpr, Map as MapExpr, Loop as LoopExpr, the_lemmas}
 use Rattle.cel_types.specs.declared.typed.TypedLoop.{TypedLoop}
 use Rattle.cel_value.specs.Texts.{text_view}

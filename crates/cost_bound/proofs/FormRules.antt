@@ -12,13 +12,13 @@ use Rattle.cel_ops.specs.declared.texts.TextTest.{TextTest}
 use Rattle.cel_overload.specs.declared.overload.Overload.{Overload}
 use Rattle.cel_overload.specs.declared.overload.Overload.TheVariants as overloads
 use Rattle.cel_types.specs.Elaborated.{TypedTree, TypedTrees, kind, no_typed, typed, typed_call, typed_list}
-use Rattle.cel_types.specs.steps.ExprViews.{exprs_view}
+use Rattle.cel_types.specs.private.ExprViews.{exprs_view}
 use Rattle.cel_types.specs.declared.typed.TypedExpr.{TypedExpr}
 use Rattle.cost_bound.proofs.Steps.{as_many, cost_count}
 use Rattle.cel_value.specs.Types.{ValueType}
 use Rattle.cel_costs.specs.Costs.{call_cost, call_size, cost_of, costs_of, counted_cost, join_all, size_of, sizes_of, total, value_size}
 use Rattle.cel_costs.specs.Sizes.{Size, Text, Many, join, mass_of, most_of}
-use Rattle.cost_bound.specs.steps.Formulas.{AreItems, FormulaTree, fixed, either, both, Gets, HasShape, IsForm, SameNumbers, ShapeTree, flat, lengthy, items, given}
+use Rattle.cost_bound.specs.private.Formulas.{AreItems, FormulaTree, fixed, either, both, Gets, HasShape, IsForm, SameNumbers, ShapeTree, flat, lengthy, items, given}
 use Rattle.cost_bound.specs.declared.numbers.Gives.{Gives}
 use Rattle.cost_bound.specs.declared.numbers.Gives.TheVariants as gives
 use Rattle.cost_bound.proofs.Formulas.{either_gets, pair_gets}

@@ -4,7 +4,7 @@ use Rattle.std.proofs.lemmas.List.{at_drop_more}
 use Rattle.cel_types.specs.TypedMeaning.{local_at}
 use Rattle.cel_costs.specs.Costs.{known, value_size}
 use Rattle.cel_costs.specs.Sizes.{Size, Flat, Text, Many, Table, join}
-use Rattle.cost_bound.specs.steps.Formulas.{joined}
+use Rattle.cost_bound.specs.private.Formulas.{joined}
 use Rattle.cost_bound.proofs.Joins.{join_again, many_of, table_of}
 
 -- nothing more joined

@@ -10,8 +10,8 @@ use Rattle.std.specs.declared.alloc.Global.{Global}
 use Rattle.cel_types.specs.TypedMeaning.{local_at}
 use Rattle.cel_costs.specs.Costs.{known}
 use Rattle.cel_costs.specs.Sizes.{Size, most_of}
-use Rattle.cost_bound.specs.steps.Formulas.{AreKinds, FormulaTree, fixed, local, either, both, Gets, HasNumbers, HasShape, SameNumbers, ShapeTree, formula_view, given, greatest_at, kind_of, length_at, maxima_view, seen_all, seen_of}
-use Rattle.cost_bound.specs.steps.Numbers.{capped}
+use Rattle.cost_bound.specs.private.Formulas.{AreKinds, FormulaTree, fixed, local, either, both, Gets, HasNumbers, HasShape, SameNumbers, ShapeTree, formula_view, given, greatest_at, kind_of, length_at, maxima_view, seen_all, seen_of}
+use Rattle.cost_bound.specs.private.Numbers.{capped}
 use Rattle.cost_bound.specs.declared.maxima.Maxima.{Maxima}
 use Rattle.cost_bound.specs.declared.numbers.Formula.{Formula, Fixed, Local, Maxima as FormulaMaxima, Either, Both, the_lemmas}
 use Rattle.cost_bound.specs.declared.numbers.Gives.{Gives}

@@ -4,9 +4,9 @@ use Rattle.std.proofs.lemmas.Bool.Decides.{nat_tests}
 use Rattle.cel_types.specs.TypedMeaning.{local_at}
 use Rattle.cel_costs.specs.Costs.{known}
 use Rattle.cel_costs.specs.Sizes.{Size}
-use Rattle.cost_bound.specs.steps.Numbers.{capped}
-use Rattle.cost_bound.specs.steps.ScopeView.{Counted, locals_view, sizes_among}
-use Rattle.cost_bound.specs.steps.SizeView.{size_view}
+use Rattle.cost_bound.specs.private.Numbers.{capped}
+use Rattle.cost_bound.specs.private.ScopeView.{Counted, locals_view, sizes_among}
+use Rattle.cost_bound.specs.private.SizeView.{size_view}
 use Rattle.cost_bound.specs.declared.scope.Scope.{Scope, Local, the_lemmas}
 use Rattle.cost_bound.specs.declared.size.ValueSize.{ValueSize}
 

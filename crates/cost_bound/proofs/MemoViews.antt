@@ -6,9 +6,9 @@ use Rattle.std.specs.declared.rc.Rc.{Rc}
 use Rattle.cost_bound.specs.declared.form.Form.{Form}
 use Rattle.cost_bound.specs.declared.memo.Memo.{Memo, Unknown, Known, Costly, Formed, Parts, the_lemmas}
 use Rattle.cost_bound.specs.declared.size.ValueSize.{ValueSize}
-use Rattle.cost_bound.specs.steps.Memos.{nothing_known, known_as, more_than, formed, parts_known, memo_at, memo_view, memos_view}
-use Rattle.cost_bound.specs.steps.Formulas.{formula_view, shape_view}
-use Rattle.cost_bound.specs.steps.SizeView.{size_view}
+use Rattle.cost_bound.specs.private.Memos.{nothing_known, known_as, more_than, formed, parts_known, memo_at, memo_view, memos_view}
+use Rattle.cost_bound.specs.private.Formulas.{formula_view, shape_view}
+use Rattle.cost_bound.specs.private.SizeView.{size_view}
 
 pub view_unknown : memo_view Unknown ≡ nothing_known
 view_unknown = search (rules, the_lemmas)

@@ -4,13 +4,13 @@ use Rattle.attributes.specs.Limits.{LimitsValue}
 use Rattle.cel_overload.specs.declared.overload.Overload.{Overload}
 use Rattle.cel_types.specs.Elaborated.{kinds}
 use Rattle.cel_types.specs.View.{expr_view}
-use Rattle.cel_types.specs.steps.ExprViews.{exprs_view}
+use Rattle.cel_types.specs.private.ExprViews.{exprs_view}
 use Rattle.cel_types.specs.declared.typed.TypedExpr.{TypedExpr}
 use Rattle.cel_value.specs.Types.{ValueType}
 use Rattle.cel_costs.specs.Costs.{call_size, charge_at, cost_of, costs_of, size_of, sizes_of, total}
 use Rattle.cel_costs.specs.Sizes.{Size}
-use Rattle.cost_bound.specs.steps.Measuring.{call_part}
-use Rattle.cost_bound.specs.steps.Numbers.{capped}
+use Rattle.cost_bound.specs.private.Measuring.{call_part}
+use Rattle.cost_bound.specs.private.Numbers.{capped}
 use Rattle.cost_bound.proofs.Calls.{part_covers}
 use Rattle.cost_bound.proofs.Capped.{paid}
 

@@ -1,7 +1,7 @@
 -- The sizes from a place on.
 use Rattle.std.proofs.Common.{◌≡◌, ℕ, ◌+◌, ◌-◌, ◌<◌, ◌≤◌, List, ◌∷◌, length, drop, get_or, ap, arith}
 use Rattle.std.proofs.lemmas.List.{drop_more}
-use Rattle.cost_bound.specs.steps.SizeView.{size_view, sizes_view}
+use Rattle.cost_bound.specs.private.SizeView.{size_view, sizes_view}
 use Rattle.cost_bound.specs.declared.size.ValueSize.{ValueSize}
 
 sizes_at : (xs : List ValueSize) (i : ℕ) (d : ValueSize) → i < length xs

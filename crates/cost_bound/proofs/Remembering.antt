@@ -6,17 +6,17 @@ use Rattle.attributes.specs.Limits.{LimitsValue}
 use Rattle.cel_types.specs.Elaborated.{TypedTree, typed_constant, typed_local, typed_attribute, typed_field, typed_has, typed_call, typed_list, typed_map, typed_loop, TypedTrees, no_typed, typed}
 use Rattle.cel_types.specs.Names.{variable_count}
 use Rattle.cel_types.specs.View.{TypedParts, expr_view, loop_of}
-use Rattle.cel_types.specs.steps.ExprViews.{exprs_view}
+use Rattle.cel_types.specs.private.ExprViews.{exprs_view}
 use Rattle.cel_types.specs.declared.typed.TypedExpr.{TypedExpr}
 use Rattle.cel_types.specs.declared.typed.Variables.{Variables}
 use Rattle.cel_value.specs.Types.{ValueType}
 use Rattle.cel_costs.specs.Costs.{cost_of, size_of}
 use Rattle.cel_costs.specs.Sizes.{Size}
-use Rattle.cost_bound.specs.steps.Memos.{MemoTree, nothing_known, known_as, more_than, formed, parts_known, MemoTrees, memo_at, part_at, Says, HoldsForAll, MemoHolds, MemoHoldsEach, MemoHoldsInside, InTurns, IsSettled, IsTold, NamesOnly}
-use Rattle.cost_bound.specs.steps.Memos.{Remembers}
-use Rattle.cost_bound.specs.steps.Formulas.{FormulaTree, IsForm, ShapeTree}
-use Rattle.cost_bound.specs.steps.Numbers.{capped}
-use Rattle.cost_bound.specs.steps.ScopeView.{Counted, sizes_among}
+use Rattle.cost_bound.specs.private.Memos.{MemoTree, nothing_known, known_as, more_than, formed, parts_known, MemoTrees, memo_at, part_at, Says, HoldsForAll, MemoHolds, MemoHoldsEach, MemoHoldsInside, InTurns, IsSettled, IsTold, NamesOnly}
+use Rattle.cost_bound.specs.private.Memos.{Remembers}
+use Rattle.cost_bound.specs.private.Formulas.{FormulaTree, IsForm, ShapeTree}
+use Rattle.cost_bound.specs.private.Numbers.{capped}
+use Rattle.cost_bound.specs.private.ScopeView.{Counted, sizes_among}
 use Rattle.cost_bound.specs.declared.steady.Around.{Around}
 use Rattle.cost_bound.proofs.Alike.{alike_settled, same_cost, same_size, turns_alike, turns_with, turns_with_all}
 use Rattle.cost_bound.proofs.Locals.{as_many}

@@ -5,7 +5,7 @@ use Rattle.std.specs.declared.vec.Vec.{Vec}
 use Rattle.std.specs.declared.alloc.Global.{Global}
 use Rattle.cel_costs.specs.Costs.{value_size}
 use Rattle.cel_costs.specs.Sizes.{Size, join, mass_of}
-use Rattle.cost_bound.specs.steps.Formulas.{ShapeTree, flat, lengthy, joins, items, item, HasShape, joined, shape_view}
+use Rattle.cost_bound.specs.private.Formulas.{ShapeTree, flat, lengthy, joins, items, item, HasShape, joined, shape_view}
 use Rattle.cost_bound.specs.declared.shape.Shape.{Shape, Flat as FlatShape, Text as TextShape, Joined, Items, Item, the_lemmas}
 use Rattle.cost_bound.proofs.Forms.{join_flat, join_swap, value_join}
 

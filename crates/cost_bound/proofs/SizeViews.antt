@@ -3,7 +3,7 @@ use Rattle.std.proofs.Common.{◌≡◌, ℕ, refl, ◌∙◌, rules}
 use Rattle.std.specs.declared.rc.Rc.{Rc}
 use Rattle.std.specs.declared.alloc.Global.{Global}
 use Rattle.cel_costs.specs.Sizes.{Size, Flat, Text, Many, Table}
-use Rattle.cost_bound.specs.steps.SizeView.{size_view}
+use Rattle.cost_bound.specs.private.SizeView.{size_view}
 use Rattle.cost_bound.specs.declared.size.ValueSize.{ValueSize, Flat as FlatSize, Text as TextSize, Many as ManySize, Table as TableSize, Many' as ManySize', Table' as TableSize', the_lemmas}
 
 pub view_flat : size_view FlatSize ≡ Flat

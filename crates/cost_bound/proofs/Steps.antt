@@ -4,7 +4,7 @@ use Rattle.std.proofs.lemmas.List.{drop_more}
 use Rattle.attributes.specs.Limits.{LimitsValue}
 use Rattle.cel_types.specs.Elaborated.{TypedTrees, no_typed, typed}
 use Rattle.cel_types.specs.View.{TypedParts, expr_view, loop_of}
-use Rattle.cel_types.specs.steps.ExprViews.{exprs_view}
+use Rattle.cel_types.specs.private.ExprViews.{exprs_view}
 use Rattle.cel_types.specs.declared.typed.TypedExpr.{TypedExpr}
 use Rattle.cel_value.specs.Types.{ValueType}
 use Rattle.std.specs.Prelude.{Result, IfErr, IsErrAnd}
@@ -14,7 +14,7 @@ use Rattle.proto_wire.specs.Refusal.{MemoryOr}
 use Rattle.proto_wire.specs.declared.refusal.Refusal.{Refusal}
 use Rattle.cel_costs.specs.Costs.{cost_of, costs_of, field_cost, grown, size_of, sizes_of, total, turns_cost, variable_sizes}
 use Rattle.cel_costs.specs.Sizes.{Size, most_of}
-use Rattle.cost_bound.specs.steps.Measuring.{CostsMore, next_size, turn_cost}
+use Rattle.cost_bound.specs.private.Measuring.{CostsMore, next_size, turn_cost}
 use Rattle.cost_bound.proofs.Capped.{one_less, paid}
 
 -- a lookup of a field charges one and the rest of it

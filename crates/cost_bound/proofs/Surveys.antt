@@ -8,15 +8,15 @@ use Rattle.cel_types.specs.Elaborated.{TypedTree, TypedTrees, no_typed, typed, t
 use Rattle.attributes.specs.declared.attribute.AttrId.{AttrId}
 use Rattle.cel_value.specs.Values.{CelValue}
 use Rattle.cel_costs.specs.Costs.{attribute_size, constant_size}
-use Rattle.cost_bound.specs.steps.Formulas.{Gets, formula_view, shape_view}
+use Rattle.cost_bound.specs.private.Formulas.{Gets, formula_view, shape_view}
 use Rattle.cel_types.specs.View.{TypedParts, expr_view, loop_of}
-use Rattle.cel_types.specs.steps.ExprViews.{exprs_view}
+use Rattle.cel_types.specs.private.ExprViews.{exprs_view}
 use Rattle.cel_types.specs.declared.typed.TypedExpr.{TypedExpr}
 use Rattle.cel_value.specs.Types.{ValueType}
 use Rattle.cel_costs.specs.Sizes.{Size}
 use Rattle.cost_bound.proofs.Remembering.{part_holds}
 use Rattle.cost_bound.specs.declared.form.Form.{Form}
-use Rattle.cost_bound.specs.steps.Memos.{MemoTree, MemoTrees, memo_at, part_at, FormAt, Forms, Says, HoldsForAll, MemoHolds, MemoHoldsEach}
+use Rattle.cost_bound.specs.private.Memos.{MemoTree, MemoTrees, memo_at, part_at, FormAt, Forms, Says, HoldsForAll, MemoHolds, MemoHoldsEach}
 
 module _ (m : MemoTree) (silent : (d : TypedTree) (k : LimitsValue) (sizes : List Size) → Says m d k sizes) where
   -- of a loop, by what is known of its parts

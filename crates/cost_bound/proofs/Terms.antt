@@ -6,7 +6,7 @@ use Rattle.std.proofs.lemmas.List.{drop_more}
 use Rattle.cel_types.specs.TypedMeaning.{local_at}
 use Rattle.cel_costs.specs.Costs.{known}
 use Rattle.cel_costs.specs.Sizes.{Size, most_of}
-use Rattle.cost_bound.specs.steps.Formulas.{AreKinds, greatest_at, kind_of, lengths_at, term_at}
+use Rattle.cost_bound.specs.private.Formulas.{AreKinds, greatest_at, kind_of, lengths_at, term_at}
 use Rattle.cost_bound.specs.declared.maxima.Named.{Named}
 use Rattle.cost_bound.specs.declared.term.Term.{Term}
 

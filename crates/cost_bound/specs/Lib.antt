@@ -1,1 +1,1 @@
-pub mod steps
+pub mod private

@@ -6,12 +6,12 @@ ghost use Rattle.cel_overload.specs.declared.overload.Overload.TheVariants.{Cond
 ghost use Rattle.cel_ops.specs.declared.operation.Operation.TheVariants as operations;
 ghost use Rattle.cel_types.specs.Elaborated.{TypedTree, kind, no_typed, typed, typed_call};
 ghost use Rattle.cel_types.specs.View.{expr_view};
-ghost use Rattle.cel_types.specs.steps.ExprViews.{exprs_view};
+ghost use Rattle.cel_types.specs.private.ExprViews.{exprs_view};
 ghost use Rattle.cel_value.specs.Types.{ValueType, bytes_type, text_type, type_view};
 ghost use Rattle.cel_costs.specs.Costs.{counted_cost};
 ghost use Rattle.cel_costs.specs.Sizes.{Size, most_of};
-ghost use Rattle.cost_bound.specs.steps.Formulas.{fixed, formula_view};
-ghost use Rattle.cost_bound.specs.steps.Memos.{Forms, MemoHoldsEach, memo_view};
+ghost use Rattle.cost_bound.specs.private.Formulas.{fixed, formula_view};
+ghost use Rattle.cost_bound.specs.private.Memos.{Forms, MemoHoldsEach, memo_view};
 
 use crate::form::{Form, choice_form, flat_form, text_form};
 use crate::formula::both;

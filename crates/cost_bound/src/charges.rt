@@ -5,13 +5,13 @@ ghost use Rattle.cel_ops.specs.declared.operation.Operation.TheVariants as opera
 ghost use Rattle.cel_overload.specs.declared.overload.Overload.TheVariants as overloads;
 ghost use Rattle.cel_types.specs.Elaborated.{kind, kinds};
 ghost use Rattle.cel_types.specs.View.{expr_view};
-ghost use Rattle.cel_types.specs.steps.ExprViews.{exprs_view};
+ghost use Rattle.cel_types.specs.private.ExprViews.{exprs_view};
 ghost use Rattle.cel_value.specs.Texts.{text_view};
 ghost use Rattle.cel_value.specs.Types.{ValueType, type_view};
 ghost use Rattle.cel_costs.specs.Costs.{charge_at, conversion_cost, counted_cost, field_cost, map_cost};
-ghost use Rattle.cost_bound.specs.steps.Measuring.{CostsMore, call_part};
-ghost use Rattle.cost_bound.specs.steps.Numbers.{capped};
-ghost use Rattle.cost_bound.specs.steps.SizeView.{size_view, sizes_view};
+ghost use Rattle.cost_bound.specs.private.Measuring.{CostsMore, call_part};
+ghost use Rattle.cost_bound.specs.private.Numbers.{capped};
+ghost use Rattle.cost_bound.specs.private.SizeView.{size_view, sizes_view};
 
 use crate::size::{ValueSize, product, sum};
 use cel_ops::{Conversion, Operation};

@@ -9,10 +9,10 @@ ghost use Rattle.cel_costs.specs.Costs.{cost_of, size_of};
 ghost use Rattle.cel_costs.specs.Sizes.{Size};
 ghost use Rattle.cost_bound.specs.declared.numbers.Gives.TheVariants.{Nothing};
 ghost use Rattle.cost_bound.specs.declared.shape.Shape as shapes;
-ghost use Rattle.cost_bound.specs.steps.Formulas.{Gets, SameNumbers, both, formula_view, shape_view};
-ghost use Rattle.cost_bound.specs.steps.Memos.{Forms};
-ghost use Rattle.cost_bound.specs.steps.ScopeView.{IsCounted, locals_view, scope_view};
-ghost use Rattle.cost_bound.specs.steps.SizeView.{size_view};
+ghost use Rattle.cost_bound.specs.private.Formulas.{Gets, SameNumbers, both, formula_view, shape_view};
+ghost use Rattle.cost_bound.specs.private.Memos.{Forms};
+ghost use Rattle.cost_bound.specs.private.ScopeView.{IsCounted, locals_view, scope_view};
+ghost use Rattle.cost_bound.specs.private.SizeView.{size_view};
 
 use crate::formula::{both, either};
 use crate::numbers::{Formula, Gives, numbers_in};

@@ -2,7 +2,7 @@
 
 ghost use Rattle.std.specs.Prelude.{◌≡◌, ◌+◌, ◌*◌, ℕ, List, IfOk, IfSome, max};
 ghost use Rattle.cel_costs.specs.Sizes.{Size};
-ghost use Rattle.cost_bound.specs.steps.Formulas.{FormulaTree, HasNumbers, SameNumbers, both, either, formula_view, given, greatest_at, maxima_view, term_at};
+ghost use Rattle.cost_bound.specs.private.Formulas.{FormulaTree, HasNumbers, SameNumbers, both, either, formula_view, given, greatest_at, maxima_view, term_at};
 
 use crate::maxima::{Maxima, join_named};
 use crate::numbers::{Formula, Gives, Numbers, both_numbers, either_numbers, fixed_numbers};

@@ -8,7 +8,7 @@ ghost use Rattle.cel_tree.specs.View.{constant_view};
 ghost use Rattle.cel_value.specs.Types.{type_view};
 ghost use Rattle.cel_costs.specs.Costs.{attribute_size, constant_size};
 ghost use Rattle.cel_costs.specs.Sizes.{Text, least, least_key};
-ghost use Rattle.cost_bound.specs.steps.SizeView.{size_view};
+ghost use Rattle.cost_bound.specs.private.SizeView.{size_view};
 
 use crate::size::{ValueSize, many, table};
 use attributes::{AttrId, Limit, Limits};

@@ -3,11 +3,11 @@
 ghost use Rattle.std.specs.Prelude.{IfOk, IfSome, List};
 ghost use Rattle.attributes.specs.Limits.{LimitsValue};
 ghost use Rattle.cel_types.specs.Elaborated.{TypedTree, TypedTrees, typed, typed_list};
-ghost use Rattle.cel_types.specs.steps.ExprViews.{exprs_view};
+ghost use Rattle.cel_types.specs.private.ExprViews.{exprs_view};
 ghost use Rattle.cel_value.specs.Types.{ValueType};
 ghost use Rattle.cel_costs.specs.Sizes.{Size};
-ghost use Rattle.cost_bound.specs.steps.Formulas.{AreItems, formula_view, shape_view};
-ghost use Rattle.cost_bound.specs.steps.Memos.{Forms, MemoHoldsEach, memo_view};
+ghost use Rattle.cost_bound.specs.private.Formulas.{AreItems, formula_view, shape_view};
+ghost use Rattle.cost_bound.specs.private.Memos.{Forms, MemoHoldsEach, memo_view};
 
 use crate::form::Form;
 use crate::formula::both;

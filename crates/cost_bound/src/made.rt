@@ -5,8 +5,8 @@ ghost use Rattle.cel_overload.specs.declared.overload.Overload.TheVariants.{Oper
 ghost use Rattle.cel_value.specs.Types.{ValueType, type_view};
 ghost use Rattle.cel_costs.specs.Costs.{call_size, charge_at, concat_size, conversion_size, join_all, keys_of, list_size, map_cost, map_size, masses, values_of};
 ghost use Rattle.cel_costs.specs.Sizes.{Size, most_of};
-ghost use Rattle.cost_bound.specs.steps.Numbers.{capped};
-ghost use Rattle.cost_bound.specs.steps.SizeView.{size_view, sizes_view};
+ghost use Rattle.cost_bound.specs.private.Numbers.{capped};
+ghost use Rattle.cost_bound.specs.private.SizeView.{size_view, sizes_view};
 
 use crate::known::least;
 use crate::size::{ValueSize, join, many, product, sum, table};

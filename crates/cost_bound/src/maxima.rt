@@ -4,7 +4,7 @@ ghost use Rattle.std.specs.Prelude.{◌≡◌, IfOk, IsTrue, List, [], ◌∷◌
 ghost use Rattle.cel_types.specs.TypedMeaning.{local_at};
 ghost use Rattle.cel_costs.specs.Costs.{known};
 ghost use Rattle.cel_costs.specs.Sizes.{Size};
-ghost use Rattle.cost_bound.specs.steps.Formulas.{AreKinds, SameNumbers, either, fixed, kind_of, local, maxima_view, seen_all};
+ghost use Rattle.cost_bound.specs.private.Formulas.{AreKinds, SameNumbers, either, fixed, kind_of, local, maxima_view, seen_all};
 
 use crate::seen::{Kind, Seen, is_of_kind};
 use crate::term::{Term, copy_terms, join_terms};

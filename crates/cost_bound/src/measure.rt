@@ -8,15 +8,15 @@ ghost use Rattle.cel_overload.specs.declared.overload.Overload.TheVariants.{Cond
 ghost use Rattle.cel_types.specs.Elaborated.{TypedTree, kinds, typed_field, typed_has};
 ghost use Rattle.cel_types.specs.Names.{variable_count};
 ghost use Rattle.cel_types.specs.View.{expr_view, loop_of};
-ghost use Rattle.cel_types.specs.steps.ExprViews.{exprs_view, parts_view};
+ghost use Rattle.cel_types.specs.private.ExprViews.{exprs_view, parts_view};
 ghost use Rattle.cel_value.specs.Texts.{text_view};
 ghost use Rattle.cel_value.specs.Types.{ValueType, type_view};
 ghost use Rattle.cel_costs.specs.Costs.{call_cost, call_size, field_cost, grown, list_size, map_cost, map_size, total, turns_cost};
 ghost use Rattle.cel_costs.specs.Sizes.{Size, join};
-ghost use Rattle.cost_bound.specs.steps.Measuring.{CostsMore, Finds, HoldInTurns, HoldsIn, HoldsInEach, call_part, cost_in, costs_in, next_in, size_in, sizes_in, turn_in};
-ghost use Rattle.cost_bound.specs.steps.Memos.{Remembers, RemembersEach, Says, known_view, memo_view};
-ghost use Rattle.cost_bound.specs.steps.ScopeView.{IsCounted, locals_view, scope_view};
-ghost use Rattle.cost_bound.specs.steps.SizeView.{size_view, sizes_view, variables_view};
+ghost use Rattle.cost_bound.specs.private.Measuring.{CostsMore, Finds, HoldInTurns, HoldsIn, HoldsInEach, call_part, cost_in, costs_in, next_in, size_in, sizes_in, turn_in};
+ghost use Rattle.cost_bound.specs.private.Memos.{Remembers, RemembersEach, Says, known_view, memo_view};
+ghost use Rattle.cost_bound.specs.private.ScopeView.{IsCounted, locals_view, scope_view};
+ghost use Rattle.cost_bound.specs.private.SizeView.{size_view, sizes_view, variables_view};
 
 use crate::charges::{call_part, field_part, is_choice, pay, pay_turns};
 use crate::known::{attribute_size, constant_size};

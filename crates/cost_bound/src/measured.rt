@@ -5,10 +5,10 @@ ghost use Rattle.proto_wire.specs.Refusal.{MemoryOr};
 ghost use Rattle.attributes.specs.Limits.{LimitsValue};
 ghost use Rattle.cel_types.specs.Elaborated.{TypedTree};
 ghost use Rattle.cel_costs.specs.Costs.{cost_of, size_of};
-ghost use Rattle.cost_bound.specs.steps.Measuring.{CostsMore, Finds};
-ghost use Rattle.cost_bound.specs.steps.Memos.{Says, known_view, memo_view};
-ghost use Rattle.cost_bound.specs.steps.ScopeView.{IsCounted, locals_view, scope_view};
-ghost use Rattle.cost_bound.specs.steps.SizeView.{size_view};
+ghost use Rattle.cost_bound.specs.private.Measuring.{CostsMore, Finds};
+ghost use Rattle.cost_bound.specs.private.Memos.{Says, known_view, memo_view};
+ghost use Rattle.cost_bound.specs.private.ScopeView.{IsCounted, locals_view, scope_view};
+ghost use Rattle.cost_bound.specs.private.SizeView.{size_view};
 
 use crate::charges::{pay, pay_turns};
 use crate::form::{apply, is_leaf};

@@ -4,8 +4,8 @@ ghost use Rattle.std.specs.Prelude.{◌≡◌, ◌<◌, ◌≤◌, ◌+◌, ℕ,
 ghost use Rattle.attributes.specs.Limits.{LimitsValue};
 ghost use Rattle.cel_types.specs.Elaborated.{TypedTree};
 ghost use Rattle.cel_costs.specs.Sizes.{Size};
-ghost use Rattle.cost_bound.specs.steps.Formulas.{formula_view, shape_view};
-ghost use Rattle.cost_bound.specs.steps.Memos.{FormAt, Says, formed, known_view, memo_at, memo_view, memos_view, nothing_known, part_at};
+ghost use Rattle.cost_bound.specs.private.Formulas.{formula_view, shape_view};
+ghost use Rattle.cost_bound.specs.private.Memos.{FormAt, Says, formed, known_view, memo_at, memo_view, memos_view, nothing_known, part_at};
 
 use crate::form::Form;
 use crate::size::ValueSize;

@@ -2,9 +2,9 @@
 
 ghost use Rattle.std.specs.Prelude.{◌≡◌, ℕ, List, IfOk, IfSome};
 ghost use Rattle.cel_costs.specs.Sizes.{Size};
-ghost use Rattle.cost_bound.specs.steps.Formulas.{FormulaTree, HasNumbers, both, either, formula_view, given, local, maxima_view, seen_all};
-ghost use Rattle.cost_bound.specs.steps.Numbers.{capped};
-ghost use Rattle.cost_bound.specs.steps.ScopeView.{scope_view};
+ghost use Rattle.cost_bound.specs.private.Formulas.{FormulaTree, HasNumbers, both, either, formula_view, given, local, maxima_view, seen_all};
+ghost use Rattle.cost_bound.specs.private.Numbers.{capped};
+ghost use Rattle.cost_bound.specs.private.ScopeView.{scope_view};
 
 use crate::maxima::{Maxima, are_kinds};
 use crate::scope::Scope;

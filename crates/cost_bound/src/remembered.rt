@@ -4,9 +4,9 @@ ghost use Rattle.std.specs.Prelude.{◌≡◌, ◌+◌, ℕ, IfErr, IfOk};
 ghost use Rattle.proto_wire.specs.Refusal.{MemoryOr};
 ghost use Rattle.proto_wire.specs.declared.refusal.Refusal.TheVariants.{Memory};
 ghost use Rattle.cel_costs.specs.Sizes.{Size};
-ghost use Rattle.cost_bound.specs.steps.Measuring.{CostsMore};
-ghost use Rattle.cost_bound.specs.steps.Memos.{IsTold, memo_view, nothing_known};
-ghost use Rattle.cost_bound.specs.steps.SizeView.{size_view};
+ghost use Rattle.cost_bound.specs.private.Measuring.{CostsMore};
+ghost use Rattle.cost_bound.specs.private.Memos.{IsTold, memo_view, nothing_known};
+ghost use Rattle.cost_bound.specs.private.SizeView.{size_view};
 
 use crate::measured::Measured;
 use crate::memo::Memo;

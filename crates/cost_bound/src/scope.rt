@@ -3,9 +3,9 @@
 ghost use Rattle.std.specs.Prelude.{◌≡◌, ◌∷◌, IfOk, length};
 ghost use Rattle.cel_types.specs.TypedMeaning.{local_at};
 ghost use Rattle.cel_costs.specs.Costs.{known};
-ghost use Rattle.cost_bound.specs.steps.Numbers.{capped};
-ghost use Rattle.cost_bound.specs.steps.ScopeView.{IsCounted, locals_view, scope_view};
-ghost use Rattle.cost_bound.specs.steps.SizeView.{size_view};
+ghost use Rattle.cost_bound.specs.private.Numbers.{capped};
+ghost use Rattle.cost_bound.specs.private.ScopeView.{IsCounted, locals_view, scope_view};
+ghost use Rattle.cost_bound.specs.private.SizeView.{size_view};
 
 use crate::size::ValueSize;
 use std::alloc::AllocError;

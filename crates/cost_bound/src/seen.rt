@@ -4,10 +4,10 @@ ghost use Rattle.std.specs.Prelude.{◌≡◌, ◌++◌, IfOk, IsTrue, List};
 ghost use Rattle.cel_types.specs.TypedMeaning.{local_at};
 ghost use Rattle.cel_costs.specs.Costs.{known};
 ghost use Rattle.cel_costs.specs.Sizes.{Size, most_of};
-ghost use Rattle.cost_bound.specs.steps.Formulas.{kind_of, seen_all, seen_of};
-ghost use Rattle.cost_bound.specs.steps.Numbers.{capped};
-ghost use Rattle.cost_bound.specs.steps.ScopeView.{scope_view};
-ghost use Rattle.cost_bound.specs.steps.SizeView.{size_view};
+ghost use Rattle.cost_bound.specs.private.Formulas.{kind_of, seen_all, seen_of};
+ghost use Rattle.cost_bound.specs.private.Numbers.{capped};
+ghost use Rattle.cost_bound.specs.private.ScopeView.{scope_view};
+ghost use Rattle.cost_bound.specs.private.SizeView.{size_view};
 
 use crate::scope::Scope;
 use crate::size::ValueSize;

@@ -4,9 +4,9 @@ ghost use Rattle.std.specs.Prelude.{◌≡◌, ◌+◌, ℕ, IfOk, IfSome, IsTru
 ghost use Rattle.cel_types.specs.TypedMeaning.{local_at};
 ghost use Rattle.cel_costs.specs.Costs.{known, value_size};
 ghost use Rattle.cel_costs.specs.Sizes.{Size, join, mass_of};
-ghost use Rattle.cost_bound.specs.steps.Formulas.{HasShape, flat, joined, lengthy, shape_view};
-ghost use Rattle.cost_bound.specs.steps.ScopeView.{IsCounted, locals_view, scope_view};
-ghost use Rattle.cost_bound.specs.steps.SizeView.{size_view};
+ghost use Rattle.cost_bound.specs.private.Formulas.{HasShape, flat, joined, lengthy, shape_view};
+ghost use Rattle.cost_bound.specs.private.ScopeView.{IsCounted, locals_view, scope_view};
+ghost use Rattle.cost_bound.specs.private.SizeView.{size_view};
 
 use crate::scope::Scope;
 use crate::size::{ValueSize, join, many};

@@ -3,8 +3,8 @@
 ghost use Rattle.std.specs.Prelude.{◌≡◌, ◌+◌, ◌*◌, ◌↔◌, ℕ, IfOk, IfSome, IsTrue};
 ghost use Rattle.cel_costs.specs.Costs.{element_size, key_size, resized, value_size};
 ghost use Rattle.cel_costs.specs.Sizes.{Flat, Many, Size, Table, Text, join, mass_of, most_of};
-ghost use Rattle.cost_bound.specs.steps.Numbers.{capped};
-ghost use Rattle.cost_bound.specs.steps.SizeView.{IsWider, size_view};
+ghost use Rattle.cost_bound.specs.private.Numbers.{capped};
+ghost use Rattle.cost_bound.specs.private.SizeView.{IsWider, size_view};
 
 use std::alloc::{AllocError, Global};
 use std::rc::Rc;

@@ -3,10 +3,10 @@
 ghost use Rattle.std.specs.Prelude.{◌≡◌, ◌<◌, ◌≤◌, ℕ, IsTrue};
 ghost use Rattle.cel_types.specs.Names.{variable_count};
 ghost use Rattle.cel_types.specs.View.{expr_view, loop_of};
-ghost use Rattle.cel_types.specs.steps.ExprViews.{exprs_view, parts_view};
+ghost use Rattle.cel_types.specs.private.ExprViews.{exprs_view, parts_view};
 ghost use Rattle.cel_value.specs.Types.{ValueType};
-ghost use Rattle.cost_bound.specs.steps.Memos.{EachNamesOnly, IsSettled, NamesOnly};
-ghost use Rattle.cost_bound.specs.steps.Numbers.{capped};
+ghost use Rattle.cost_bound.specs.private.Memos.{EachNamesOnly, IsSettled, NamesOnly};
+ghost use Rattle.cost_bound.specs.private.Numbers.{capped};
 
 use cel_ops::Operation;
 use cel_overload::Overload;

@@ -4,10 +4,10 @@ ghost use Rattle.std.specs.Prelude.{◌≡◌, List, IfOk, IfSome};
 ghost use Rattle.attributes.specs.Limits.{LimitsValue};
 ghost use Rattle.cel_types.specs.Elaborated.{TypedTree, typed_call, typed_list};
 ghost use Rattle.cel_types.specs.View.{expr_view, loop_of};
-ghost use Rattle.cel_types.specs.steps.ExprViews.{exprs_view, parts_view};
+ghost use Rattle.cel_types.specs.private.ExprViews.{exprs_view, parts_view};
 ghost use Rattle.cel_value.specs.Types.{ValueType};
 ghost use Rattle.cel_costs.specs.Sizes.{Size};
-ghost use Rattle.cost_bound.specs.steps.Memos.{Forms, HoldsForAll, MemoHolds, MemoHoldsEach, Says, known_view, memo_view};
+ghost use Rattle.cost_bound.specs.private.Memos.{Forms, HoldsForAll, MemoHolds, MemoHoldsEach, Says, known_view, memo_view};
 
 use crate::call_forms::call_form;
 use crate::form::{Form, leaf_form, local_form};

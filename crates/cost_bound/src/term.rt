@@ -2,8 +2,8 @@
 
 ghost use Rattle.std.specs.Prelude.{◌≡◌, ◌≤◌, ◌+◌, IfOk, IfSome, IsTrue, List, max};
 ghost use Rattle.cel_costs.specs.Sizes.{Size};
-ghost use Rattle.cost_bound.specs.steps.Formulas.{greatest_at, lengths_at, seen_all, term_at};
-ghost use Rattle.cost_bound.specs.steps.Numbers.{capped};
+ghost use Rattle.cost_bound.specs.private.Formulas.{greatest_at, lengths_at, seen_all, term_at};
+ghost use Rattle.cost_bound.specs.private.Numbers.{capped};
 
 use crate::seen::{Seen, length_of};
 use crate::size::sum;

@@ -3,8 +3,8 @@
 ghost use Rattle.std.specs.Prelude.{◌≡◌, ◌∷◌, ◌++◌, IfOk, length};
 ghost use Rattle.cel_types.specs.Names.{variable_count};
 ghost use Rattle.cel_costs.specs.Costs.{variable_sizes};
-ghost use Rattle.cost_bound.specs.steps.ScopeView.{IsCounted, locals_view, scope_view};
-ghost use Rattle.cost_bound.specs.steps.SizeView.{size_view, variables_view};
+ghost use Rattle.cost_bound.specs.private.ScopeView.{IsCounted, locals_view, scope_view};
+ghost use Rattle.cost_bound.specs.private.SizeView.{size_view, variables_view};
 
 use crate::scope::Scope;
 use crate::size::ValueSize;

@@ -6,7 +6,7 @@ use Rattle.attributes.specs.Headers.{Entry}
 use Rattle.head_map.specs.declared.fact.NamedFact.{NamedFact}
 use Rattle.head_map.specs.Claims.{Claim}
 use Rattle.head_map.specs.Mapped.{ClientValue, Says, put, put_all}
-use Rattle.head_map.specs.steps.Client.{IsToldBy}
+use Rattle.head_map.specs.private.Client.{IsToldBy}
 
 -- one more pair
 zip_push : {A B : Type 0} (R : A → B → Type 0) (xs : List A) (ys : List B) (x : A) (y : B)

@@ -3,4 +3,4 @@ pub mod Claims
 pub mod Mapped
 pub mod Mappings
 pub mod Heads
-pub mod steps
+pub mod private

@@ -4,8 +4,8 @@ ghost use Rattle.std.specs.String.{string_bytes};
 ghost use Rattle.attributes.specs.Conn.{text_view};
 ghost use Rattle.attributes.specs.Headers.{Entry, lines_view, values_of};
 ghost use Rattle.head_map.specs.Mapped.{Says, SaysFault, put};
-ghost use Rattle.head_map.specs.steps.Client.{IsToldBy, client_view};
-ghost use Rattle.head_map.specs.steps.Told.{claim_of};
+ghost use Rattle.head_map.specs.private.Client.{IsToldBy, client_view};
+ghost use Rattle.head_map.specs.private.Told.{claim_of};
 
 use crate::fact::{MapFault, NamedFact};
 use crate::lines::value_of;

@@ -5,7 +5,7 @@ ghost use Rattle.std.specs.Str.{bytes_eq};
 ghost use Rattle.std.specs.String.{string_bytes};
 ghost use Rattle.attributes.specs.Headers.{lines_view, values_of};
 ghost use Rattle.head_map.specs.Mapped.{is_named, is_there, lines_with_host, other_lines};
-ghost use Rattle.head_map.specs.steps.Lines.{LacksOneValue};
+ghost use Rattle.head_map.specs.private.Lines.{LacksOneValue};
 
 use crate::fact::{MapFault, NamedFact};
 use std::alloc::{AllocError, Global};

@@ -5,7 +5,7 @@ ghost use Rattle.attributes.specs.declared.address.Ip.{Ip};
 ghost use Rattle.httparse.specs.Grammar.{is_token, is_uri_byte};
 ghost use Rattle.std.specs.List.{list_all};
 ghost use Rattle.head_map.specs.Claims.{Claim, IsClientIp, IsForwarded, IsFromRight, IsMappedIp, IsPortText, Reads, begins_with_slash, is_host, is_scheme, is_target, parts_of, text_of, without_back_blanks, without_front_blanks};
-ghost use Rattle.head_map.specs.steps.Told.{claim_of};
+ghost use Rattle.head_map.specs.private.Told.{claim_of};
 
 use crate::fact::Fact;
 use attributes::{Ip, parse_ip};

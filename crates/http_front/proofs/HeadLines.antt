@@ -9,9 +9,9 @@ use Rattle.http_front.specs.declared.head.Parsed.TheVariants.{Hopeless, Unfinish
 use Rattle.http_front.specs.Head.{HeadValue, StartsHead, head_room}
 use Rattle.http_front.specs.Heads.{reading}
 use Rattle.http_front.specs.Lines.{AreHeadLines, AreLinesOf, AreNextLines}
-use Rattle.http_front.specs.steps.Asks.{IsNoHead}
-use Rattle.http_front.specs.steps.Parsed.{IsParsed}
-use Rattle.http_front.specs.steps.Turns.{front_of, kept_of}
+use Rattle.http_front.specs.private.Asks.{IsNoHead}
+use Rattle.http_front.specs.private.Parsed.{IsParsed}
+use Rattle.http_front.specs.private.Turns.{front_of, kept_of}
 use Rattle.http_front.proofs.Rooms.{not_hopeless, room_is, starts_head_from_take, starts_head_to_take, starts_head_unique}
 
 -- the lines of the one head that bytes begin with

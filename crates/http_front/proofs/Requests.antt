@@ -28,7 +28,7 @@ use Rattle.http_front.specs.Asks.{HeadAsks}
 use Rattle.http_front.specs.Head.{HeadValue, head_of}
 use Rattle.http_front.specs.Heads.{Kept, Takes, closed, reading}
 use Rattle.http_front.specs.Rules.{RuleFault, lines_of, lowered}
-use Rattle.http_front.specs.steps.Parsed.{AreTexts}
+use Rattle.http_front.specs.private.Parsed.{AreTexts}
 use Rattle.http_front.proofs.FieldNames.{lines_in_head, token_byte}
 use Rattle.http_front.proofs.HeadTexts.{kept_texts}
 use Rattle.http_front.proofs.Texts.{utf8_of_literal}

@@ -16,7 +16,7 @@ use Rattle.http_front.specs.declared.line.LineScan.TheVariants as lines
 use Rattle.http_front.specs.declared.scan.Scan.{Scan}
 use Rattle.http_front.specs.declared.scan.Scan.TheVariants as scans
 use Rattle.http_front.proofs.Texts.{utf8_of_ascii}
-use Rattle.http_front.specs.steps.Scans.{Ends, EndsCrLf, EndsLine, EndsName, EndsValue, EndsVersion, GoesOn, IsHead, IsInTarget, IsSeen}
+use Rattle.http_front.specs.private.Scans.{Ends, EndsCrLf, EndsLine, EndsName, EndsValue, EndsVersion, GoesOn, IsHead, IsInTarget, IsSeen}
 
 -- ---- lines
 

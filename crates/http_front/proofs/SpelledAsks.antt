@@ -20,8 +20,8 @@ use Rattle.http_front.specs.Asks.{AskFault, HasFault, request_of_head}
 use Rattle.http_front.specs.Head.{StartsHead, head_of, head_room}
 use Rattle.http_front.specs.Parts.{PartsAsk, PartsFault, PartsValue, field_view, head_with, line_name, line_of, parts_text, spelled_head}
 use Rattle.http_front.specs.Rules.{IsBadText, IsOriginForm, LinesFault, RuleFault, lines_of, lowered}
-use Rattle.http_front.specs.steps.Parsed.{AreTexts, IsFraming}
-use Rattle.http_front.specs.steps.Parts.{HasTextValue, head_fields}
+use Rattle.http_front.specs.private.Parsed.{AreTexts, IsFraming}
+use Rattle.http_front.specs.private.Parts.{HasTextValue, head_fields}
 use Rattle.http_front.proofs.FieldLists.{map_take_more, none_has}
 use Rattle.http_front.proofs.FieldNames.{lines_in_head}
 use Rattle.http_front.proofs.HeadTexts.{kept_texts}

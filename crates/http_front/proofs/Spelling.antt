@@ -26,7 +26,7 @@ use Rattle.http_front.specs.Asks.{HasFault, request_of_head}
 use Rattle.http_front.specs.Head.{HasNoHead, HeadValue, StartsHead, head_of, head_room}
 use Rattle.http_front.specs.Parts.{AreMalformedIn, IsMalformedIn, IsTarget, PartsAsk, PartsFault, PartsValue, field_view, head_with, line_of, parts_text, spelled_head}
 use Rattle.http_front.specs.Rules.{lines_of}
-use Rattle.http_front.specs.steps.Parts.{IsLineMalformedIn, IsSpellingFault}
+use Rattle.http_front.specs.private.Parts.{IsLineMalformedIn, IsSpellingFault}
 
 -- what follows from what holds if there is none
 pub if_none_then : {X P Q : Type 0} (o : Option X) → IfNone o P → (P → Q) → IfNone o Q

@@ -17,8 +17,8 @@ use Rattle.http_front.specs.Bodies.{body_of}
 use Rattle.http_front.specs.Head.{HeadValue, StartsHead, head_room}
 use Rattle.http_front.specs.Heads.{IsAtRest, Takes, closed, fed, passed, reading}
 use Rattle.http_front.specs.Rules.{IsBadLength, LinesFault, RuleFault, lines_of}
-use Rattle.http_front.specs.steps.Scans.{AreSeen, IsSeen}
-use Rattle.http_front.specs.steps.Turns.{IsNextTurn, IsTurn, IsTurnIn, IsTurnOf, IsTurnOfFirst, kept_of, passing}
+use Rattle.http_front.specs.private.Scans.{AreSeen, IsSeen}
+use Rattle.http_front.specs.private.Turns.{IsNextTurn, IsTurn, IsTurnIn, IsTurnOf, IsTurnOfFirst, kept_of, passing}
 use Rattle.http_front.proofs.Rooms.{never_has_request_from_take, none_in_room, starts_head_from_take}
 
 -- a slice from a place on

@@ -9,4 +9,4 @@ pub mod InTurn
 pub mod Front
 pub mod Lines
 pub mod Answer
-pub mod steps
+pub mod private

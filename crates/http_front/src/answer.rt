@@ -3,7 +3,7 @@ ghost use Rattle.std.specs.Prelude.{◌≡◌, ◌++◌, [], IfOk, OnOk, codes, 
 ghost use Rattle.std.specs.String.{string_bytes};
 ghost use Rattle.httparse.specs.Ascii.{crlf_bytes};
 ghost use Rattle.http_front.specs.Answer.{answer_by, answer_of, closing_field, fault_phrase, fault_row, lines_of_row, match_list, match_text, matches_text, reply_view, row_of};
-ghost use Rattle.http_front.specs.steps.Rows.{row_view};
+ghost use Rattle.http_front.specs.private.Rows.{row_view};
 
 use crate::fault::HeadFault;
 use std::alloc::{AllocError, Global};

@@ -6,7 +6,7 @@ ghost use Rattle.httparse.specs.Grammar.{skip_ows, trim_ows};
 ghost use Rattle.httparse.specs.Spans.{IsHeaderWithin, header_bytes};
 ghost use Rattle.http_front.specs.Closing.{elements, is_close, lists_close};
 ghost use Rattle.http_front.specs.Rules.{lowered};
-ghost use Rattle.http_front.specs.steps.Elements.{elements_left};
+ghost use Rattle.http_front.specs.private.Elements.{elements_left};
 
 use httparse::is_space_or_tab;
 use httparse::spans::HeaderSpan;

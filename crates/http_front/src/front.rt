@@ -7,7 +7,7 @@ ghost use Rattle.http_front.specs.Answer.{answer_of, reply_view};
 ghost use Rattle.http_front.specs.Front.{HasNoAsk, TakesNext, fed_front, keeping, new_front};
 ghost use Rattle.http_front.specs.Heads.{closed, is_closed, reading};
 ghost use Rattle.http_front.specs.Lines.{AreNextLines};
-ghost use Rattle.http_front.specs.steps.Turns.{IsNextTurn, passing};
+ghost use Rattle.http_front.specs.private.Turns.{IsNextTurn, passing};
 
 use crate::answer::Reply;
 use crate::ask::Ask;
@@ -46,8 +46,8 @@ impl Model for Front {
     ghost use Rattle.std.specs.Prelude.{◌≡◌, ◌≤◌, IfSome, drop, vec_len};
     ghost use Rattle.attributes.specs.Conn.{conn_view};
     ghost use Rattle.http_front.specs.Front.{FrontValue};
-    ghost use Rattle.http_front.specs.steps.Turns.{front_of, kept_of};
-    ghost use Rattle.http_front.specs.steps.Scans.{AreSeen};
+    ghost use Rattle.http_front.specs.private.Turns.{front_of, kept_of};
+    ghost use Rattle.http_front.specs.private.Scans.{AreSeen};
 
     ghost Value = { FrontValue };
 

@@ -5,7 +5,7 @@ ghost use Rattle.attributes.specs.Conn.{conn_view};
 ghost use Rattle.attributes.specs.Headers.{lines_view};
 ghost use Rattle.httparse.specs.Ascii.{line_feed};
 ghost use Rattle.http_front.specs.declared.fault.HeadFault.{HeadFault};
-ghost use Rattle.http_front.specs.steps.Parsed.{AreTexts, IsParsed};
+ghost use Rattle.http_front.specs.private.Parsed.{AreTexts, IsParsed};
 ghost use Rattle.http_front.specs.Asks.{request_of_head};
 ghost use Rattle.http_front.specs.Bodies.{body_of};
 ghost use Rattle.http_front.specs.Closing.{closes};
@@ -45,7 +45,7 @@ impl<'a> Model for Head<'a> {
 
     ghost Value = { HeadValue };
 
-    ghost use Rattle.http_front.specs.steps.Parsed.{LieInBytes};
+    ghost use Rattle.http_front.specs.private.Parsed.{LieInBytes};
 
     ghost view = { λ h. record {
       method = h.method.now;

@@ -1,7 +1,7 @@
 //! How far the bytes of a head were scanned after its target.
 ghost use Rattle.std.specs.Prelude.{◌≡◌, ◌<◌, ℕ, List, ◌∷◌};
 ghost use Rattle.std.specs.Bool.{OnTrue};
-ghost use Rattle.http_front.specs.steps.Scans.{Ends, EndsLine, EndsName, EndsValue, EndsVersion, GoesOn};
+ghost use Rattle.http_front.specs.private.Scans.{Ends, EndsLine, EndsName, EndsValue, EndsVersion, GoesOn};
 
 use httparse::{is_header_name_token, is_header_value_token};
 

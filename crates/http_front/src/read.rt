@@ -6,8 +6,8 @@ ghost use Rattle.http_front.specs.declared.fault.HeadFault.{HeadFault};
 ghost use Rattle.http_front.specs.Head.{head_room};
 ghost use Rattle.http_front.specs.Asks.{AskFault, HasFault, HeadAsks, IfFault, IfJudge, IsUnfinished};
 ghost use Rattle.http_front.specs.Rules.{RuleFault};
-ghost use Rattle.http_front.specs.steps.Parsed.{AreTexts};
-ghost use Rattle.http_front.specs.steps.Asks.{IsAskIn, IsAskOf, IsAskWithin, IsNoHead};
+ghost use Rattle.http_front.specs.private.Parsed.{AreTexts};
+ghost use Rattle.http_front.specs.private.Asks.{IsAskIn, IsAskOf, IsAskWithin, IsNoHead};
 
 use crate::fault::HeadFault;
 use crate::head::{Head, Parsed, parse, parse_few};

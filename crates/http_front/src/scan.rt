@@ -3,7 +3,7 @@
 ghost use Rattle.std.specs.Prelude.{◌≡◌, ◌+◌, ◌<◌, ◌≤◌, ◌^◌, ℕ, List, [], ◌∷◌, ◌++◌, IsUtf8, drop, length, take};
 ghost use Rattle.std.specs.Bool.{OnTrue};
 ghost use Rattle.httparse.specs.Grammar.{HasNoRequest, MayBecomeRequest};
-ghost use Rattle.http_front.specs.steps.Scans.{IsSeen};
+ghost use Rattle.http_front.specs.private.Scans.{IsSeen};
 ghost use Rattle.http_front.specs.declared.scan.Scan.TheVariants.{Blank, BlankEnd, Method, Target};
 
 use crate::line::LineScan;

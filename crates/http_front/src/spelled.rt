@@ -5,7 +5,7 @@ ghost use Rattle.httparse.specs.Ascii.{crlf_bytes};
 ghost use Rattle.httparse.specs.Grammar.{IsField, IsRequestHead, print_field, print_request, print_version};
 ghost use Rattle.http_front.specs.Head.{head_room};
 ghost use Rattle.http_front.specs.Parts.{AreMalformedIn, IsMalformedIn, IsTarget, field_view, line_of, parts_view, spelled_head, without_host, without_repeated};
-ghost use Rattle.http_front.specs.steps.Parts.{IsLineMalformedIn, IsSpellingFault, head_in};
+ghost use Rattle.http_front.specs.private.Parts.{IsLineMalformedIn, IsSpellingFault, head_in};
 
 use crate::fault::{HeadFault, HeadPart};
 use crate::parts::{HeadParts, Line};

@@ -11,8 +11,8 @@ ghost use Rattle.http_front.specs.Asks.{AskFault, request_of_head};
 ghost use Rattle.http_front.specs.Head.{head_of, head_room};
 ghost use Rattle.http_front.specs.Parts.{field_view};
 ghost use Rattle.http_front.specs.Rules.{IsBadText, RuleFault, lowered};
-ghost use Rattle.http_front.specs.steps.Parsed.{AreTexts, HasAsciiName, IsFraming};
-ghost use Rattle.http_front.specs.steps.Parts.{HasTextValue, head_fields, head_in};
+ghost use Rattle.http_front.specs.private.Parsed.{AreTexts, HasAsciiName, IsFraming};
+ghost use Rattle.http_front.specs.private.Parts.{HasTextValue, head_fields, head_in};
 
 use crate::fault::HeadFault;
 use crate::fields::text_of;

@@ -3,9 +3,9 @@ ghost use Rattle.std.specs.Prelude.{◌≡◌, ◌≤◌, ℕ, List, IfOk, IsOk,
 ghost use Rattle.attributes.specs.Conn.{Facts, conn_view};
 ghost use Rattle.attributes.specs.Limits.{LimitsValue};
 ghost use Rattle.http_front.specs.Head.{head_room};
-ghost use Rattle.http_front.specs.steps.Asks.{IsAskOf, IsNoHead, KeepsRules};
-ghost use Rattle.http_front.specs.steps.Parsed.{IsParsed};
-ghost use Rattle.http_front.specs.steps.Turns.{IsParsedOf, IsTurn, IsTurnIn, IsTurnOf, IsTurnOfFirst};
+ghost use Rattle.http_front.specs.private.Asks.{IsAskOf, IsNoHead, KeepsRules};
+ghost use Rattle.http_front.specs.private.Parsed.{IsParsed};
+ghost use Rattle.http_front.specs.private.Turns.{IsParsedOf, IsTurn, IsTurnIn, IsTurnOf, IsTurnOfFirst};
 
 use crate::ask::Ask;
 use crate::fault::HeadFault;

@@ -2,9 +2,9 @@
 use Rattle.std.proofs.Common.{◌≡◌, Bool, true, false, ◌&&◌, if◌then◌else◌, List, Option, Some, None, refl}
 use Rattle.cel_value.specs.Values.{CelAnswer, value, fails}
 use Rattle.cel_value.specs.Types.{ValueType, type_eq}
-use Rattle.cel_value.specs.steps.EqualityLaws.{type_eq_decides}
+use Rattle.cel_value.specs.private.EqualityLaws.{type_eq_decides}
 use Rattle.machine_code.specs.Slots.{Slot, failing, of, SlotFits, is_a, of_type_if, joined_slot}
-use Rattle.machine_code.specs.steps.Holding.{MayHold}
+use Rattle.machine_code.specs.private.Holding.{MayHold}
 use Rattle.std.specs.Option.{option_and_then}
 use Rattle.std.proofs.lemmas.Bool.{and_parts}
 use Rattle.machine_code.proofs.Fitting.{StackFits, slot_refl, slot_fits}

@@ -11,7 +11,7 @@ use Rattle.cel_ops.specs.Attributes.{attribute, attribute_type, header_entries}
 use Rattle.cel_ops.proofs.AttributeTypes.{attribute_typed_fact}
 use Rattle.machine_code.specs.Attributes.{attribute_slot}
 use Rattle.machine_code.specs.Slots.{Slot, of}
-use Rattle.machine_code.specs.steps.Holding.{MayHold}
+use Rattle.machine_code.specs.private.Holding.{MayHold}
 use Rattle.machine_code.proofs.Asked.{Gives, some_is}
 pub use Rattle.cel_ops.proofs.AttributeTypes.{seen_pairs}
 

@@ -20,7 +20,7 @@ use Rattle.cel_ops.specs.Strict.{Gathered, all_values, first_error, gather, gath
 use Rattle.cel_ops.specs.Parts.{joined}
 use Rattle.cel_ops.specs.Collections.{size, list_index, item_of, map_index, at_key, value_at, has_key, in_map, field, has_field, in_list, list_literal, found_or, elements_of}
 use Rattle.machine_code.specs.Slots.{Slot, failing, of, is_a, joined_slot, joined_all, sequence_slot, concat_slot, has_size, size_slot, list_index_slot, map_index_slot, in_map_slot, field_slot, has_field_slot, in_list_slot, list_of, list_literal_slot, loop_slot}
-use Rattle.machine_code.specs.steps.Holding.{MayHold}
+use Rattle.machine_code.specs.private.Holding.{MayHold}
 use Rattle.machine_code.proofs.Fitting.{StackFits}
 use Rattle.machine_code.proofs.Forms.{int_in, text_in, bytes_in, list_in, map_in}
 use Rattle.machine_code.proofs.Asked.{Gives, KeepsOne, KeepsTwo, KeepsAll, as_type, given_if, some_is, keeps_joined, joined_holds}

@@ -14,7 +14,7 @@ use Rattle.cel_ops.specs.Strict.{Gathered, all_values, first_error, gather, gath
 use Rattle.cel_ops.specs.Collections.{map_literal, map_made_of, written_entries}
 use Rattle.cel_ops.proofs.MadeMaps.{insert_all, made_map}
 use Rattle.machine_code.specs.Slots.{Slot, failing, of, SlotFits, joined_slot, joined_entries, map_of_slots, map_literal_slot}
-use Rattle.machine_code.specs.steps.Holding.{MayHold}
+use Rattle.machine_code.specs.private.Holding.{MayHold}
 use Rattle.machine_code.proofs.Fitting.{StackFits, slot_fits, slot_refl, slot_trans}
 use Rattle.machine_code.proofs.Asked.{Gives, KeepsAll, some_is, joined_fits}
 use Rattle.machine_code.proofs.KeptItems.{as_key}

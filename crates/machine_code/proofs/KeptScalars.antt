@@ -26,7 +26,7 @@ use Rattle.cel_ops.specs.declared.arithmetic.ArithmeticOp.{ArithmeticOp}
 use Rattle.cel_ops.specs.declared.comparison.CompareOp.{CompareOp}
 use Rattle.cel_ops.specs.declared.conversion.Conversion.{Conversion}
 use Rattle.machine_code.specs.Slots.{Slot, failing, of, of_type_if, may_compare, constant_slot, number_slot, arithmetic_slot, same_slot, test_slot, compare_slot, convert_slot}
-use Rattle.machine_code.specs.steps.Holding.{MayHold}
+use Rattle.machine_code.specs.private.Holding.{MayHold}
 use Rattle.machine_code.proofs.Asked.{Gives, KeepsOne, KeepsTwo, given_if, some_is, keeps_one, keeps_two, keeps_joined}
 use Rattle.cel_ops.proofs.Conversions.{conversion_typed}
 use Rattle.cel_ops.proofs.Numbers.{int64_fits as int64, uint64_below as uint64}

@@ -8,11 +8,11 @@ use Rattle.proto_wire.specs.declared.refusal.Refusal.{Refusal}
 use Rattle.program_jobs.proofs.Ends.{never_by_memory}
 use Rattle.rbac_judge.specs.Judging.{IsRefusedFor}
 use Rattle.program_jobs.specs.Jobs.{EndsBatch, IsNoBatch, StopsBy}
-use Rattle.program_jobs.specs.steps.BatchJob.{EndsLines, IsBegunBy}
-use Rattle.program_jobs.specs.steps.Ending.{EndsResult}
-use Rattle.rbac_judge.specs.steps.Judged.{bare, report_with}
-use Rattle.program_jobs.specs.steps.Stopping.{MemoryOrStop}
-use Rattle.rbac_judge.specs.steps.Printed.{IsPrintedFor, told_with}
+use Rattle.program_jobs.specs.private.BatchJob.{EndsLines, IsBegunBy}
+use Rattle.program_jobs.specs.private.Ending.{EndsResult}
+use Rattle.rbac_judge.specs.private.Judged.{bare, report_with}
+use Rattle.program_jobs.specs.private.Stopping.{MemoryOrStop}
+use Rattle.rbac_judge.specs.private.Printed.{IsPrintedFor, told_with}
 use Rattle.rbac_judge.specs.declared.batch.Basis.{Basis}
 use Rattle.program_jobs.specs.declared.batch_job.Start.TheVariants.{Ready}
 use Rattle.program_jobs.specs.declared.job_fault.JobFault.{JobFault}

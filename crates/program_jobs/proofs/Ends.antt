@@ -4,12 +4,12 @@ use Rattle.std.specs.declared.io.Error.{Error as IoError}
 use Rattle.rbac_judge.proofs.JudgeLemmas.{less_found}
 use Rattle.rbac_judge.specs.Explain.{IsGiven}
 use Rattle.rbac_judge.specs.Judging.{IsDecision}
-use Rattle.program_jobs.specs.steps.Ending.{EndsResult}
-use Rattle.rbac_judge.specs.steps.Printed.{IsPrintedFor, less_told, told_with}
+use Rattle.program_jobs.specs.private.Ending.{EndsResult}
+use Rattle.rbac_judge.specs.private.Printed.{IsPrintedFor, less_told, told_with}
 use Rattle.program_jobs.specs.Jobs.{ChecksTo, EndsConfig, EndsControl, EndsProxy, EndsReplay, EndsReport, IsCheckedAs, IsJudgedAs, IsUnread, JudgesTo, LacksConfig, LeavesFault, LeavesObject, StopsBy, StopsControl, StopsProxy}
 use Rattle.stream_pumps.specs.Rounds.{Link}
-use Rattle.rbac_judge.specs.steps.Judged.{bare, report_with}
-use Rattle.program_jobs.specs.steps.Stopping.{MemoryOrStop}
+use Rattle.rbac_judge.specs.private.Judged.{bare, report_with}
+use Rattle.program_jobs.specs.private.Stopping.{MemoryOrStop}
 use Rattle.rbac_judge.specs.declared.explain.Explanation.{Explanation}
 use Rattle.rbac_judge.specs.declared.explain.Explanation.TheVariants as explanations
 use Rattle.rbac_judge.specs.declared.json.Why.{Why}

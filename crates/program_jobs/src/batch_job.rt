@@ -3,8 +3,8 @@ ghost use Rattle.std.specs.Prelude.{◌≡◌, List, Option, ℕ, IfErr, IfOk, o
 ghost use Rattle.attributes.specs.Limits.{largest};
 ghost use Rattle.rbac_policy.specs.Admitted.{limits_view};
 ghost use Rattle.program_jobs.specs.Jobs.{EndsBatch, StopsBy};
-ghost use Rattle.program_jobs.specs.steps.BatchJob.{EndsLines, IsBegunBy};
-ghost use Rattle.program_jobs.specs.steps.Stopping.{MemoryOrStop};
+ghost use Rattle.program_jobs.specs.private.BatchJob.{EndsLines, IsBegunBy};
+ghost use Rattle.program_jobs.specs.private.Stopping.{MemoryOrStop};
 
 use crate::ending::end_by_memory;
 use crate::files::Source;

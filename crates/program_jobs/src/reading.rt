@@ -3,7 +3,7 @@ ghost use Rattle.std.specs.Prelude.{◌≡◌, ◌≢◌, ◌⊎◌, ℕ, IfErr,
 ghost use Rattle.attributes.specs.Conn.{conn_view};
 ghost use Rattle.std.specs.IoError.{error_kind};
 ghost use Rattle.program_jobs.specs.Jobs.{HasBadFacts, IsConnOf, IsUnread};
-ghost use Rattle.program_jobs.specs.steps.Stopping.{MemoryOrStop};
+ghost use Rattle.program_jobs.specs.private.Stopping.{MemoryOrStop};
 ghost use Rattle.program_jobs.specs.declared.job_fault.JobFault.{JobFault};
 
 use crate::files::Source;

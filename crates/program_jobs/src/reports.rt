@@ -3,8 +3,8 @@ ghost use Rattle.std.specs.Prelude.{◌≡◌, ◌↔◌, IfErr, IfOk, IsTrue, o
 ghost use Rattle.rbac_judge.specs.Explain.{IsGiven};
 ghost use Rattle.rbac_judge.specs.Judging.{IsDecision};
 ghost use Rattle.program_jobs.specs.Jobs.{ChecksTo, EndsReport, IsCheckedAs, IsJudgedAs, IsUnread, JudgesTo, StopsBy};
-ghost use Rattle.rbac_judge.specs.steps.Judged.{bare};
-ghost use Rattle.program_jobs.specs.steps.Stopping.{MemoryOrStop};
+ghost use Rattle.rbac_judge.specs.private.Judged.{bare};
+ghost use Rattle.program_jobs.specs.private.Stopping.{MemoryOrStop};
 
 use crate::files::Source;
 use crate::job_fault::JobFault;

@@ -7,7 +7,7 @@ ghost use Rattle.stream_pumps.specs.ControlPump.{ServesStream};
 ghost use Rattle.stream_pumps.specs.Rounds.{Link};
 ghost use Rattle.program_jobs.specs.Jobs.{CannotListen, CannotLog, EndsControl, EndsProxy, IsConnOf, IsProxied, IsServed, LacksFit, StopsControl, StopsProxy, acknowledged_line};
 ghost use Rattle.command_line.specs.Words.{AreWhole};
-ghost use Rattle.program_jobs.specs.steps.Stopping.{MemoryOrStop};
+ghost use Rattle.program_jobs.specs.private.Stopping.{MemoryOrStop};
 
 use crate::ending::{end_by, end_by_memory, show};
 use crate::files::Source;

@@ -2,7 +2,7 @@
 ghost use Rattle.std.specs.Prelude.{◌≡◌, ◌⊎◌, IfErr, IfOk, string_bytes};
 ghost use Rattle.std.specs.Io.{StartsWith};
 ghost use Rattle.program_jobs.specs.Jobs.{EndsConfig, EndsReplay, IsConfigOf, LacksConfig, LeavesReplay, TellsLine, bad_line};
-ghost use Rattle.program_jobs.specs.steps.Stopping.{MemoryOrStop};
+ghost use Rattle.program_jobs.specs.private.Stopping.{MemoryOrStop};
 
 use crate::ending::{
     BAD_JSON, MISTAKE, end_by, end_by_memory, show, tell, tell_output, with_cause,

@@ -10,7 +10,7 @@ ghost use Rattle.ads.specs.Control.{ResourceValue, extension_of};
 ghost use Rattle.ads.specs.Views.{resource_view, snapshot_view, snapshots_view};
 ghost use Rattle.program_jobs.specs.Jobs.{AreNamedSnapshots, AreSnapshotsOf, HoldsSnapshot, IsMessageIn, IsNamedSnapshot, IsResponseAt, IsResponseWith, IsUnread, LacksFile, LacksResponse, LacksSnapshot, NamesNoResponse};
 ghost use Rattle.command_line.specs.Words.{AreGrouped, AreWhole};
-ghost use Rattle.program_jobs.specs.steps.Stopping.{MemoryOrStop};
+ghost use Rattle.program_jobs.specs.private.Stopping.{MemoryOrStop};
 
 use crate::files::Source;
 use crate::job_fault::JobFault;

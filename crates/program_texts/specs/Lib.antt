@@ -3,4 +3,4 @@ pub mod InputLines
 pub mod Members
 pub mod Output
 pub mod Shown
-pub mod steps
+pub mod private

@@ -5,7 +5,7 @@ ghost use Rattle.attributes.specs.declared.address.Ip.{Ip};
 ghost use Rattle.serde_json.specs.Find.{get};
 ghost use Rattle.serde_json.specs.View.{members_view, view};
 ghost use Rattle.program_texts.specs.Facts.{AreFacts, AreNamed, HasFactFault, HasFactNames, IsAddress, IsAnswer, IsFactName, IsNumber, IsPortNumber, IsScheme, IsText, Tells, name_of};
-ghost use Rattle.program_texts.specs.steps.Given.{HasUnknown, given_view};
+ghost use Rattle.program_texts.specs.private.Given.{HasUnknown, given_view};
 ghost use Rattle.program_texts.specs.declared.fact_fault.FactFault.TheVariants.{NotOfKind};
 
 use crate::fact::Fact;

@@ -1,5 +1,5 @@
 //! Why a replay or a batch ends before its input does.
-ghost use Rattle.program_texts.specs.steps.LineReading.{TurnFault};
+ghost use Rattle.program_texts.specs.private.LineReading.{TurnFault};
 
 use std::alloc::AllocError;
 use std::io::{self, ErrorKind};

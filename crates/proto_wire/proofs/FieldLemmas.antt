@@ -4,7 +4,7 @@ use Rattle.std.proofs.lemmas.Bool.{cases_lt}
 use Rattle.std.proofs.lemmas.List.{length-append}
 use Rattle.proto_wire.specs.Varint.{IsGroups, StartsVarint}
 use Rattle.proto_wire.specs.Fields.{Payload, varint, i64, len, i32, Wire, wire_type_of, tag_bits, IsFieldNumber, StartsField, FailsField, no_tag, bad_number, bad_payload}
-use Rattle.proto_wire.specs.steps.Payload.{StartsPayload}
+use Rattle.proto_wire.specs.private.Payload.{StartsPayload}
 use Rattle.proto_wire.specs.declared.fault.WireError.{WireError}
 use Rattle.proto_wire.specs.declared.fault.WireError.TheVariants.{BadNumber}
 use Rattle.proto_wire.proofs.VarintLemmas.{varint_unique, varint_disjoint, varint_fault_unique, varint_total}

@@ -6,7 +6,7 @@ use Rattle.std.specs.Cmp.{tied_itself}
 use Rattle.std.specs.FinMap.{FinMap, get, find, is_sorted, entries, entries_sorted, from_entries, get-entries, get-from_entries, same_map}
 use Rattle.std.specs.FinMap.Entries.{below_all}
 use Rattle.proto_wire.specs.Maps.{KeyKind, KeyOf, key_cmp, Entry, AreValues, SomeValueFault}
-use Rattle.proto_wire.specs.steps.Maps.{Held}
+use Rattle.proto_wire.specs.private.Maps.{Held}
 use Rattle.proto_wire.specs.declared.refusal.Refusal.{Refusal}
 use Rattle.proto_wire.proofs.MapLemmas.{key_cmp_total, key_cmp_antisymmetric}
 use Rattle.proto_wire.proofs.MapOrder.{both_second, true_of, found_later}

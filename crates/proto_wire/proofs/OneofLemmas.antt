@@ -9,7 +9,7 @@ use Rattle.proto_wire.specs.Fields.{Wire, field_view}
 use Rattle.proto_wire.specs.Values.{last_of}
 use Rattle.proto_wire.specs.Keys.{is_known, AllKnown}
 use Rattle.proto_wire.specs.Oneof.{last_member, trailing_run, member_run}
-use Rattle.proto_wire.specs.steps.Run.{run_with}
+use Rattle.proto_wire.specs.private.Run.{run_with}
 use Rattle.proto_wire.specs.declared.field.Field.{Field}
 use Rattle.proto_wire.specs.declared.key.Key.{Key}
 

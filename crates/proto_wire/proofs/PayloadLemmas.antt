@@ -5,7 +5,7 @@ use Rattle.std.proofs.lemmas.Bool.{cases_lt, cases_eq}
 use Rattle.std.proofs.lemmas.List.{length-append, length-take-le, take-append-drop}
 use Rattle.proto_wire.specs.Varint.{value_of, SpellsVarint, StartsVarint, FailsVarint}
 use Rattle.proto_wire.specs.Fields.{Payload, varint, i64, len, i32, wire_type_of, tag_bits, SpellsPayload, FailsPayload, unknown, no_varint, short_i64, no_size, short_len, short_i32}
-use Rattle.proto_wire.specs.steps.Payload.{StartsPayload}
+use Rattle.proto_wire.specs.private.Payload.{StartsPayload}
 use Rattle.proto_wire.specs.declared.fault.WireError.{WireError}
 use Rattle.proto_wire.specs.declared.fault.WireError.TheVariants.{Truncated, BadWireType}
 use Rattle.proto_wire.proofs.VarintLemmas.{groups_unique, varint_unique, varint_disjoint, varint_fault_unique, varint_total}

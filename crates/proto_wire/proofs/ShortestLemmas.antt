@@ -10,7 +10,7 @@ use Rattle.std.proofs.lemmas.Nat.{le_bytes_4, le_bytes_8}
 use Rattle.proto_wire.specs.Varint.{IsGroups, value_of}
 use Rattle.proto_wire.specs.Fields.{Payload, varint, i64, len, i32, Wire, wire_type_of, tag_bits, SpellsPayload, IsFieldNumber, SpellsField, StartsField, Fields}
 use Rattle.proto_wire.specs.Shortest.{ShortestVarint, ShortestPayload, ShortestField, Shortest, field_of, Appends}
-use Rattle.proto_wire.specs.steps.Writing.{AppendsVarint}
+use Rattle.proto_wire.specs.private.Writing.{AppendsVarint}
 use Rattle.proto_wire.proofs.VarintLemmas.{AllMore, value_append, value_below, groups_push, more_push}
 use Rattle.proto_wire.proofs.FieldLemmas.{some_group}
 

@@ -9,4 +9,4 @@ pub mod Refusal
 pub mod Messages
 pub mod Places
 pub mod Maps
-pub mod steps
+pub mod private

@@ -4,7 +4,7 @@ ghost use Rattle.std.specs.Prelude.{◌≡◌, map, IfOk, OnOk};
 ghost use Rattle.std.specs.Option.{option_map};
 ghost use Rattle.proto_wire.specs.Fields.{field_view};
 ghost use Rattle.proto_wire.specs.Oneof.{last_member, last_number, member_run};
-ghost use Rattle.proto_wire.specs.steps.Run.{run_with};
+ghost use Rattle.proto_wire.specs.private.Run.{run_with};
 
 use crate::field::Field;
 use crate::key::{Key, is_known};

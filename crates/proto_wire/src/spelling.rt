@@ -2,7 +2,7 @@
 
 ghost use Rattle.std.specs.Prelude.{IfOk, IfErr};
 ghost use Rattle.proto_wire.specs.Fields.{StartsField, FailsField, FailsPayload, field_view, payload_view};
-ghost use Rattle.proto_wire.specs.steps.Payload.{StartsPayload};
+ghost use Rattle.proto_wire.specs.private.Payload.{StartsPayload};
 
 use crate::fault::WireError;
 use crate::field::{Field, Payload};

@@ -3,7 +3,7 @@
 ghost use Rattle.std.specs.Prelude.{◌≡◌, ◌+◌, ◌*◌, List, ℕ, take, OnOk, OnErr};
 ghost use Rattle.proto_wire.specs.Fields.{IsFieldNumber, varint, len};
 ghost use Rattle.proto_wire.specs.Shortest.{Appends, field_of};
-ghost use Rattle.proto_wire.specs.steps.Writing.{Keeps, AppendsVarint};
+ghost use Rattle.proto_wire.specs.private.Writing.{Keeps, AppendsVarint};
 
 use std::alloc::AllocError;
 use std::marker::Model;

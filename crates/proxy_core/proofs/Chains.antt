@@ -25,7 +25,7 @@ use Rattle.http_front.specs.declared.ask.Ask.TheVariants.{Judge, Fault}
 use Rattle.proxy_core.specs.Chain.{AreRepliesTo, Chain, ChainAsks, IsReplyTo, IsUnready, Judges, unready, decided, out_of_memory, VerdictValue}
 use Rattle.proxy_core.specs.Run.{Acknowledged, AskCondition, DecideByMeaning, Rules}
 use Rattle.proxy_core.specs.Step.{AreEnforced, AsksAsWritten, DecidesAsWritten}
-use Rattle.proxy_core.specs.steps.Deciding.{CanDecide}
+use Rattle.proxy_core.specs.private.Deciding.{CanDecide}
 use Rattle.proxy_core.proofs.Standing.{IsEnforced, StandsFor}
 
 -- ---- filters in their order

@@ -11,7 +11,7 @@ use Rattle.http_front.proofs.Resuming.{judge_in_limits, takes_falls}
 use Rattle.proxy_core.specs.Chain.{IsReplyTo}
 use Rattle.proxy_core.specs.Step.{AreEnforced, AreTold, AsksAsWritten, DecidesAsWritten, Hears, TakesBytes, TellsBytes}
 use Rattle.proxy_core.specs.declared.told.Told.{Told}
-use Rattle.proxy_core.specs.steps.Deciding.{AskInLimits}
+use Rattle.proxy_core.specs.private.Deciding.{AskInLimits}
 
 -- what was told is what is enforced
 pub told_enforced : (a : Accepted) (told : List Told) (bytes : List ℕ) → AreTold a told bytes

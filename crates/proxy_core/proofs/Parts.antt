@@ -15,7 +15,7 @@ use Rattle.http_front.specs.Heads.{Kept, reading, closed, fed, is_closed}
 use Rattle.proxy_core.specs.Events.{OutputValue, http_output, no_output}
 use Rattle.proxy_core.specs.Step.{ProxyValue, TellsBytes, TakesHttp, front_at, front_in, with_conn}
 use Rattle.proxy_core.proofs.Heard.{tells_takes}
-use Rattle.proxy_core.specs.steps.Fronts.{IsOpenFor, KeepsAt}
+use Rattle.proxy_core.specs.private.Fronts.{IsOpenFor, KeepsAt}
 
 -- ---- places
 

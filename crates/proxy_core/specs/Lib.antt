@@ -6,4 +6,4 @@ pub mod Worker
 pub mod Proxies
 pub mod Acknowledging
 pub mod Headline
-pub mod steps
+pub mod private

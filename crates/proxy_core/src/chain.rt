@@ -5,7 +5,7 @@ ghost use Rattle.std.specs.List.{AllByRecursion};
 ghost use Rattle.ads.specs.Views.{policies_view};
 ghost use Rattle.proxy_core.specs.Chain.{IsUnready, Judges};
 ghost use Rattle.proxy_core.specs.Step.{AsksAsWritten, DecidesAsWritten};
-ghost use Rattle.proxy_core.specs.steps.Deciding.{CanDecide, IsTried};
+ghost use Rattle.proxy_core.specs.private.Deciding.{CanDecide, IsTried};
 
 use attributes::Request;
 use http_front::Case;

@@ -7,8 +7,8 @@ ghost use Rattle.ads.specs.Ends.{client_view};
 ghost use Rattle.http_front.specs.Answer.{answer_of, reply_view};
 ghost use Rattle.proxy_core.specs.Chain.{IsReplyTo};
 ghost use Rattle.proxy_core.specs.Step.{AreTold, AsksAsWritten, DecidesAsWritten, Hears, OpensFront, TellsBytes};
-ghost use Rattle.proxy_core.specs.steps.Fronts.{IsOpenFor};
-ghost use Rattle.proxy_core.specs.steps.Deciding.{AskInLimits, TriesNoFilter};
+ghost use Rattle.proxy_core.specs.private.Fronts.{IsOpenFor};
+ghost use Rattle.proxy_core.specs.private.Deciding.{AskInLimits, TriesNoFilter};
 
 use crate::chain::judged;
 use crate::told::Told;

@@ -2,7 +2,7 @@
 
 ghost use Rattle.std.specs.List.{AllByRecursion};
 ghost use Rattle.ads.specs.Ends.{client_view};
-ghost use Rattle.proxy_core.specs.steps.Fronts.{IsOpenFor};
+ghost use Rattle.proxy_core.specs.private.Fronts.{IsOpenFor};
 
 use ads::Client;
 use http_front::Front;

@@ -8,7 +8,7 @@ ghost use Rattle.http_front.specs.Front.{HasNoAsk, fed_front};
 ghost use Rattle.proxy_core.specs.Events.{ads_bytes, ads_output, ads_up, event_view, http_bytes, http_open, http_output, no_output, output_view};
 ghost use Rattle.proxy_core.specs.Proxies.{proxy_view};
 ghost use Rattle.proxy_core.specs.Step.{OpensAt, StepsBy, TakesAds, TakesHttp, TakesNoMemory, front_at, new_proxy, with_conn};
-ghost use Rattle.proxy_core.specs.steps.Fronts.{IsOpenFor, KeepsAt};
+ghost use Rattle.proxy_core.specs.private.Fronts.{IsOpenFor, KeepsAt};
 
 use crate::event::{Event, Output};
 use crate::hearing::{opened, taken};

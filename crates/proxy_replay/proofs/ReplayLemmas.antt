@@ -11,8 +11,8 @@ use Rattle.program_texts.specs.InputLines.{AreLines, ReadsLine}
 use Rattle.program_texts.proofs.LineLemmas.{end_of, read_at_end, read_more}
 use Rattle.program_texts.specs.declared.replay_fault.ReplayFault.{ReplayFault}
 use Rattle.program_texts.specs.declared.replay_fault.ReplayFault.TheVariants as faults
-use Rattle.proxy_replay.specs.steps.Replaying.{IsSomeLine, TurnStops}
-use Rattle.program_texts.specs.steps.LineReading.{TurnFault}
+use Rattle.proxy_replay.specs.private.Replaying.{IsSomeLine, TurnStops}
+use Rattle.program_texts.specs.private.LineReading.{TurnFault}
 
 -- what is printed of more calls
 printed_more : (calls more : List EventCall) → printed_of (calls ++ more) ≡ printed_of calls ++ printed_of more

@@ -1,4 +1,4 @@
 pub mod Configuration
 pub mod Lines
 pub mod Replays
-pub mod steps
+pub mod private

@@ -6,8 +6,8 @@ ghost use Rattle.proxy_core.specs.Events.{EventValue};
 ghost use Rattle.proxy_core.specs.Proxies.{proxy_view};
 ghost use Rattle.proxy_replay.specs.Lines.{line_view};
 ghost use Rattle.proxy_replay.specs.Replays.{IsLineText, IsReplayed, IsStopped};
-ghost use Rattle.proxy_replay.specs.steps.Replaying.{Answers, IsSomeLine, PrintsAnswer, TurnStops};
-ghost use Rattle.program_texts.specs.steps.LineReading.{TurnFault};
+ghost use Rattle.proxy_replay.specs.private.Replaying.{Answers, IsSomeLine, PrintsAnswer, TurnStops};
+ghost use Rattle.program_texts.specs.private.LineReading.{TurnFault};
 ghost use Rattle.program_texts.specs.declared.line_fault.LineFault.TheVariants.{BadLine};
 ghost use Rattle.program_texts.specs.declared.replay_fault.ReplayFault.TheVariants.{Memory};
 

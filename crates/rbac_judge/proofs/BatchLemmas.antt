@@ -20,13 +20,13 @@ use Rattle.rbac_judge.specs.Batches.{Answer, Answered, AreAnswers, HasNoHead, Is
 use Rattle.rbac_judge.specs.Outcome.{printed_of}
 use Rattle.program_texts.specs.Output.{BreaksOff}
 use Rattle.program_texts.specs.InputLines.{AreLines, ReadsLine}
-use Rattle.program_texts.specs.steps.LineReading.{TurnFault}
+use Rattle.program_texts.specs.private.LineReading.{TurnFault}
 use Rattle.program_texts.specs.declared.replay_fault.ReplayFault.{ReplayFault}
 use Rattle.program_texts.specs.declared.replay_fault.ReplayFault.TheVariants as faults
-use Rattle.rbac_judge.specs.steps.Batching.{BreaksOutput, IsAnsweredBy, IsIdText, IsLineOf, IsPlainAnswer, LacksHead, OfPolicies}
+use Rattle.rbac_judge.specs.private.Batching.{BreaksOutput, IsAnsweredBy, IsIdText, IsLineOf, IsPlainAnswer, LacksHead, OfPolicies}
 use Rattle.rbac_judge.specs.declared.head_lines.HeadLine.{HeadLine}
 use Rattle.rbac_judge.specs.declared.explain.Explanation.TheVariants as explanations
-use Rattle.rbac_judge.specs.steps.Printed.{without_memory}
+use Rattle.rbac_judge.specs.private.Printed.{without_memory}
 use Rattle.rbac_judge.specs.declared.outcome.Outcome.TheVariants as outcomes
 use Rattle.rbac_judge.specs.declared.report.Report.{Report}
 use Rattle.rbac_judge.specs.Json.{untold}

@@ -5,7 +5,7 @@ use Rattle.std.proofs.BufReadLemmas.{take_through-nil, take_through_nonempty}
 use Rattle.std.specs.Io.BufRead.{DropsThrough, drop_through, take_through}
 use Rattle.std.specs.Io.Iter.{u64_saturate}
 use Rattle.program_texts.specs.InputLines.{ReadsLine}
-use Rattle.rbac_judge.specs.steps.Batching.{IsHeadLineOf, IsSomeHeadLine}
+use Rattle.rbac_judge.specs.private.Batching.{IsHeadLineOf, IsSomeHeadLine}
 use Rattle.rbac_judge.specs.declared.head_lines.HeadLine.{HeadLine}
 use Rattle.rbac_judge.specs.declared.head_lines.HeadLine.TheVariants.{TooLong, Whole}
 

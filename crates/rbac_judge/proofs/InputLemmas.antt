@@ -13,7 +13,7 @@ use Rattle.http_front.specs.declared.read.HeadAsk.{HeadAsk}
 use Rattle.http_front.specs.declared.read.HeadAsk.TheVariants.{Judge, Fault}
 use Rattle.http_front.proofs.Rooms.{asks_append, has_fault_append}
 use Rattle.rbac_judge.specs.Judging.{IsAllOf}
-use Rattle.rbac_judge.specs.steps.Reading.{IsFound, IsJustEnough, head_ask}
+use Rattle.rbac_judge.specs.private.Reading.{IsFound, IsJustEnough, head_ask}
 
 -- nothing is just enough where nothing was looked at
 pub nothing_read : IsJustEnough []

@@ -14,9 +14,9 @@ use Rattle.rbac_policy.specs.Condition.{Program}
 use Rattle.rbac_policy.specs.Filter.{Filter}
 use Rattle.rbac_judge.specs.Explain.{Explains, IsGiven}
 use Rattle.rbac_judge.specs.Judging.{InputFault, IsAllOf, IsDecided, IsDecision, IsOutcomeOf}
-use Rattle.rbac_judge.specs.steps.Printed.{less_told}
-use Rattle.rbac_judge.specs.steps.Judged.{IsAnswerTo, IsExplanationOf, IsNameOf, IsOutcomeOfAsk, IsOutcomeUnder, bare}
-use Rattle.rbac_judge.specs.steps.Reading.{IsFound}
+use Rattle.rbac_judge.specs.private.Printed.{less_told}
+use Rattle.rbac_judge.specs.private.Judged.{IsAnswerTo, IsExplanationOf, IsNameOf, IsOutcomeOfAsk, IsOutcomeUnder, bare}
+use Rattle.rbac_judge.specs.private.Reading.{IsFound}
 use Rattle.rbac_judge.specs.declared.explain.Explanation.{Explanation}
 use Rattle.rbac_judge.specs.declared.explain.Explanation.TheVariants as explanations
 use Rattle.rbac_judge.specs.declared.judge.Finding.{Finding}

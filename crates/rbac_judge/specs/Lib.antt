@@ -3,4 +3,4 @@ pub mod Json
 pub mod Outcome
 pub mod Judging
 pub mod Batches
-pub mod steps
+pub mod private

@@ -2,8 +2,8 @@
 ghost use Rattle.std.specs.Prelude.{◌≡◌, ◌≢◌, ◌<◌, ◌≤◌, ◌++◌, ◌-◌, true, List, ℕ, All, IfErr, IfOk, OnOk, OnSome, length, take};
 ghost use Rattle.std.specs.Io.{IsEmptyOrEndsWith, StopsAt};
 ghost use Rattle.std.specs.Io.KnownBytes.{Consumes, IsAtEnd};
-ghost use Rattle.rbac_judge.specs.steps.Batching.{IsHeadLineOf, IsSomeHeadLine};
-ghost use Rattle.program_texts.specs.steps.LineReading.{TurnFault};
+ghost use Rattle.rbac_judge.specs.private.Batching.{IsHeadLineOf, IsSomeHeadLine};
+ghost use Rattle.program_texts.specs.private.LineReading.{TurnFault};
 
 use program_texts::{ReplayFault, input_fault};
 use std::alloc::{AllocError, Global};

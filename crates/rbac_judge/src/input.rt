@@ -4,7 +4,7 @@ ghost use Rattle.std.specs.Io.KnownBytes.{Consumes};
 ghost use Rattle.attributes.specs.Conn.{conn_view};
 ghost use Rattle.http_front.specs.Heads.{reading};
 ghost use Rattle.rbac_judge.specs.Judging.{IsAllOf};
-ghost use Rattle.rbac_judge.specs.steps.Reading.{Feeds, IsFound, IsJustEnough, head_ask};
+ghost use Rattle.rbac_judge.specs.private.Reading.{Feeds, IsFound, IsJustEnough, head_ask};
 
 use attributes::{Conn, Limits};
 use http_front::{Ask, Front, HeadAsk};

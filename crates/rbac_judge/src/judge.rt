@@ -12,10 +12,10 @@ ghost use Rattle.rbac_policy.specs.Admitted.{filter_view, limits_view};
 ghost use Rattle.rbac_policy.specs.Admission.{Admissible};
 ghost use Rattle.rbac_policy.specs.Verdict.{IsUnconditional};
 ghost use Rattle.rbac_judge.specs.Outcome.{printed_of};
-ghost use Rattle.rbac_judge.specs.steps.Printed.{IsPrintedFor, without_memory};
+ghost use Rattle.rbac_judge.specs.private.Printed.{IsPrintedFor, without_memory};
 ghost use Rattle.rbac_judge.specs.declared.report.Report.{Report};
 ghost use Rattle.program_texts.specs.Output.{BreaksOff};
-ghost use Rattle.rbac_judge.specs.steps.Judged.{IsAnswerTo, IsExplanationOf, IsNameOf, IsOutcomeOfAsk, IsOutcomeUnder, bare, report_with};
+ghost use Rattle.rbac_judge.specs.private.Judged.{IsAnswerTo, IsExplanationOf, IsNameOf, IsOutcomeOfAsk, IsOutcomeUnder, bare, report_with};
 
 use crate::explain::{Explaining, Explanation, own_trials};
 use crate::input::read_ask;

@@ -2,7 +2,7 @@
 ghost use Rattle.std.specs.Prelude.{◌≡◌, ◌↔◌, IsTrue};
 ghost use Rattle.rbac_judge.specs.Judging.{IsDecision};
 ghost use Rattle.rbac_judge.specs.Outcome.{status_of};
-ghost use Rattle.rbac_judge.specs.steps.Judged.{matched_in};
+ghost use Rattle.rbac_judge.specs.private.Judged.{matched_in};
 
 use http_front::HeadFault;
 use proto_wire::Refusal;

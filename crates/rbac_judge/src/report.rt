@@ -2,7 +2,7 @@
 ghost use Rattle.std.specs.Prelude.{◌≡◌, IfOk, string_bytes, true};
 ghost use Rattle.rbac_judge.specs.Explain.{told_in, with_trials};
 ghost use Rattle.rbac_judge.specs.Outcome.{line_of, printed_of};
-ghost use Rattle.rbac_judge.specs.steps.Printed.{told_with, unexplained, without_memory};
+ghost use Rattle.rbac_judge.specs.private.Printed.{told_with, unexplained, without_memory};
 
 use crate::explain::{Explanation, push_lines};
 use crate::json::{Why, value_of};

@@ -6,7 +6,7 @@ use Rattle.std.specs.Char.{to_ascii_lowercase}
 use Rattle.std.specs.Str.{str_to_ascii_lowercase}
 use Rattle.rbac_match.specs.Text.{is_substring}
 use Rattle.rbac_match.proofs.Texts.{substring_split, split_substring}
-use Rattle.rbac_match.specs.steps.Search.{EndsWithFirst, EndsWithMost, AreBorders}
+use Rattle.rbac_match.specs.private.Search.{EndsWithFirst, EndsWithMost, AreBorders}
 
 -- ---- the bytes of one end within another
 

@@ -9,8 +9,8 @@ use Rattle.rbac_match.specs.declared.causes.Cause.{Cause}
 use Rattle.rbac_match.specs.declared.causes.Step.{Step}
 use Rattle.rbac_match.specs.declared.list.Joint.{Joint}
 use Rattle.rbac_match.specs.declared.matcher.Matcher.{Matcher}
-use Rattle.rbac_match.specs.steps.Causes.{Finds, below, cause_in, causes_in}
-use Rattle.rbac_match.specs.steps.Nodes.{test_at}
+use Rattle.rbac_match.specs.private.Causes.{Finds, below, cause_in, causes_in}
+use Rattle.rbac_match.specs.private.Nodes.{test_at}
 
 -- ---- lists
 

@@ -15,7 +15,7 @@ use Rattle.rbac_match.specs.declared.pool.Span.{Span}
 use Rattle.rbac_match.specs.declared.pool.TextLeaf.{TextLeaf}
 use Rattle.rbac_match.specs.declared.pool.TextLeaf.TheVariants.{Plain, AnyCase, Searched}
 use Rattle.rbac_match.specs.declared.text.Pattern.TheVariants.{Contains}
-use Rattle.rbac_match.specs.steps.Leaves.{part_of, IsWithin, IsBorders, Grows, GoodText, text_in, GoodName, no_range, GoodLeaf, leaf_in, AreGood, pattern_of}
+use Rattle.rbac_match.specs.private.Leaves.{part_of, IsWithin, IsBorders, Grows, GoodText, text_in, GoodName, no_range, GoodLeaf, leaf_in, AreGood, pattern_of}
 
 -- ---- lists
 

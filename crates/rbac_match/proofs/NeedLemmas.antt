@@ -19,8 +19,8 @@ use Rattle.rbac_match.specs.declared.matcher.Matcher.{Matcher}
 use Rattle.rbac_match.specs.declared.text.Pattern.{Pattern}
 use Rattle.rbac_match.specs.declared.text.Pattern.TheVariants.{Exact, Prefix, Suffix, Contains}
 use Rattle.rbac_match.specs.Text.{pattern_holds}
-use Rattle.rbac_match.specs.steps.Leaves.{passes_at}
-use Rattle.rbac_match.specs.steps.Nodes.{formula_in, formulas_in, test_at, token_in}
+use Rattle.rbac_match.specs.private.Leaves.{passes_at}
+use Rattle.rbac_match.specs.private.Nodes.{formula_in, formulas_in, test_at, token_in}
 use Rattle.rbac_match.proofs.NodeLists.{first_rule}
 use Rattle.rbac_match.proofs.Texts.{starts_rest}
 

@@ -10,7 +10,7 @@ use Rattle.rbac_match.specs.declared.list.Joint.{Joint}
 use Rattle.rbac_match.specs.declared.list.Node.{Node}
 use Rattle.rbac_match.specs.declared.list.Node.TheVariants.{Any, Leaf, Joined}
 use Rattle.rbac_match.specs.declared.matcher.Matcher.{Matcher}
-use Rattle.rbac_match.specs.steps.Nodes.{token_in, tokens_in, test_at, formulas_in, formula_in, HasLeaves}
+use Rattle.rbac_match.specs.private.Nodes.{token_in, tokens_in, test_at, formulas_in, formula_in, HasLeaves}
 use Rattle.rbac_match.proofs.Tokens.{decode_cons}
 
 -- ---- the places of tests

@@ -11,7 +11,7 @@ use Rattle.proto_wire.specs.declared.refusal.Refusal.TheVariants.{OutOfRange}
 use Rattle.std.specs.declared.ops.Range.{Range}
 use Rattle.rbac_match.specs.Message.{range_field, range_keys}
 use Rattle.rbac_match.specs.Ports.{IsDestinationPort, PortFault, AreBounds, IsPortRange, PortRangeFault, range_fields, no_bounds}
-use Rattle.rbac_match.specs.steps.Ports.{AreNoBounds}
+use Rattle.rbac_match.specs.private.Ports.{AreNoBounds}
 
 -- a run says a port, or a number that is none
 pub port_total : (n : ℕ) (run : List Wire) → ((port : ℕ) × IsDestinationPort n run port) ⊎ ((e : Refusal) × PortFault n run e)

@@ -12,7 +12,7 @@ use Rattle.proto_wire.specs.Oneof.{last_number, member_run, trailing_run}
 use Rattle.proto_wire.specs.Values.{last_of}
 use Rattle.proto_wire.specs.declared.field.Field.{Field}
 use Rattle.proto_wire.specs.declared.key.Key.{Key}
-use Rattle.proto_wire.specs.steps.Run.{run_with}
+use Rattle.proto_wire.specs.private.Run.{run_with}
 use Rattle.proto_wire.proofs.OneofLemmas.{run_more}
 
 -- ---- where all fields are members

@@ -16,4 +16,4 @@ pub mod Needs
 pub mod Tokens
 pub mod View
 pub mod Causes
-pub mod steps
+pub mod private

@@ -5,8 +5,8 @@ ghost use Rattle.rbac_match.specs.Causes.{all_causes, causes, decides, first_cau
 ghost use Rattle.rbac_match.specs.Formula.{not_of, or_of};
 ghost use Rattle.rbac_match.specs.Tokens.{first_of, joined_by};
 ghost use Rattle.rbac_match.specs.View.{rules_view};
-ghost use Rattle.rbac_match.specs.steps.Causes.{Finds, joined};
-ghost use Rattle.rbac_match.specs.steps.Nodes.{formula_in, formulas_in};
+ghost use Rattle.rbac_match.specs.private.Causes.{Finds, joined};
+ghost use Rattle.rbac_match.specs.private.Nodes.{formula_in, formulas_in};
 
 use crate::leaves::Leaves;
 use crate::list::{Joint, Node, RuleList, Rules, cut};
@@ -39,7 +39,7 @@ pub struct Causes<'a> {
 impl<'a> Model for Causes<'a> {
     ghost use Rattle.std.specs.Prelude.{List};
     ghost use Rattle.rbac_match.specs.Causes.{CauseValue};
-    ghost use Rattle.rbac_match.specs.steps.Causes.{causes_in};
+    ghost use Rattle.rbac_match.specs.private.Causes.{causes_in};
 
     ghost Value = { List CauseValue };
 

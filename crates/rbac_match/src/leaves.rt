@@ -9,7 +9,7 @@ ghost use Rattle.rbac_match.specs.Matcher.{matcher_holds};
 ghost use Rattle.rbac_match.specs.Needs.{Begins};
 ghost use Rattle.rbac_match.specs.declared.matcher.Matcher.TheVariants.{Header as HeaderOf};
 ghost use Rattle.rbac_match.specs.declared.leaves.Leaf.TheVariants.{HeaderText, Named, ServerName, UrlPath};
-ghost use Rattle.rbac_match.specs.steps.Leaves.{GoodLeaf, GoodName, GoodText, Grows, leaf_in, part_of, passes_at};
+ghost use Rattle.rbac_match.specs.private.Leaves.{GoodLeaf, GoodName, GoodText, Grows, leaf_in, part_of, passes_at};
 
 use crate::authenticated::peer_name;
 use crate::cidr::{AddressSource, address_matches};
@@ -66,7 +66,7 @@ pub(crate) struct Leaves {
 impl Model for Leaves {
     ghost use Rattle.std.specs.Prelude.{List, map};
     ghost use Rattle.rbac_match.specs.declared.matcher.Matcher.{Matcher};
-    ghost use Rattle.rbac_match.specs.steps.Leaves.{AreGood, leaf_in};
+    ghost use Rattle.rbac_match.specs.private.Leaves.{AreGood, leaf_in};
 
     ghost Value = { List Matcher };
 

@@ -3,7 +3,7 @@
 ghost use Rattle.std.specs.Prelude.{◌≡◌, ◌<◌, ◌≤◌, ◌+◌, ◌-◌, ◌++◌, ◌∷◌, [], List, length, take, drop, IfOk, OnOk};
 ghost use Rattle.rbac_match.specs.Tokens.{every, test as test_of, joins, inside_count, slice_at};
 ghost use Rattle.rbac_match.specs.declared.matcher.Matcher.{Matcher};
-ghost use Rattle.rbac_match.specs.steps.Nodes.{token_in, tokens_in};
+ghost use Rattle.rbac_match.specs.private.Nodes.{token_in, tokens_in};
 
 use crate::leaves::Leaves;
 use crate::matcher::Matcher;
@@ -64,7 +64,7 @@ pub struct RuleList {
 impl Model for RuleList {
     ghost use Rattle.std.specs.Prelude.{List, length};
     ghost use Rattle.rbac_match.specs.Tokens.{Token};
-    ghost use Rattle.rbac_match.specs.steps.Nodes.{HasLeaves, tokens_in};
+    ghost use Rattle.rbac_match.specs.private.Nodes.{HasLeaves, tokens_in};
 
     ghost Value = { List Token };
 

@@ -4,7 +4,7 @@ ghost use Rattle.std.specs.Prelude.{◌≡◌};
 ghost use Rattle.rbac_match.specs.Formula.{holds, all_hold, some_hold};
 ghost use Rattle.rbac_match.specs.Tokens.{first_of, joined_by};
 ghost use Rattle.rbac_match.specs.View.{rules_view};
-ghost use Rattle.rbac_match.specs.steps.Nodes.{formula_in, formulas_in};
+ghost use Rattle.rbac_match.specs.private.Nodes.{formula_in, formulas_in};
 
 use crate::leaves::Leaves;
 use crate::list::{Joint, Node, RuleList, Rules, cut};

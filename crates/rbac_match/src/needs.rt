@@ -7,8 +7,8 @@ ghost use Rattle.rbac_match.specs.Formula.{all_hold, holds, some_hold};
 ghost use Rattle.rbac_match.specs.Needs.{Begins, NeedsStart, NeedsValue};
 ghost use Rattle.rbac_match.specs.View.{rules_view};
 ghost use Rattle.rbac_match.specs.declared.list.Node.{Node};
-ghost use Rattle.rbac_match.specs.steps.Leaves.{passes_at};
-ghost use Rattle.rbac_match.specs.steps.Nodes.{formula_in, formulas_in};
+ghost use Rattle.rbac_match.specs.private.Leaves.{passes_at};
+ghost use Rattle.rbac_match.specs.private.Nodes.{formula_in, formulas_in};
 
 use crate::leaves::Leaves;
 use crate::list::{Joint, Node, RuleList, Rules, cut};

@@ -5,8 +5,8 @@ ghost use Rattle.std.specs.Str.{IsUtf8, str_to_ascii_lowercase};
 ghost use Rattle.rbac_match.specs.Needs.{Begins};
 ghost use Rattle.rbac_match.specs.Tokens.{slice_at};
 ghost use Rattle.rbac_match.specs.Text.{is_substring, pattern_holds, text_holds};
-ghost use Rattle.rbac_match.specs.steps.Leaves.{GoodText, Grows, IsBorders, IsWithin, part_of, text_in};
-ghost use Rattle.rbac_match.specs.steps.Search.{AreAllBorders};
+ghost use Rattle.rbac_match.specs.private.Leaves.{GoodText, Grows, IsBorders, IsWithin, part_of, text_in};
+ghost use Rattle.rbac_match.specs.private.Search.{AreAllBorders};
 
 use crate::search::{borders_of, contains_ignore_case, position};
 use crate::text::{Ends, Pattern, TextMatcher, holds, holds_ignore_case};

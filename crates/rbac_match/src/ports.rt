@@ -8,7 +8,7 @@ ghost use Rattle.proto_wire.specs.declared.refusal.Refusal.TheVariants.{OutOfRan
 ghost use Rattle.rbac_match.specs.Ports.{AreBounds, IsDestinationPort, IsPortRange, PortFault, PortRangeFault};
 ghost use Rattle.rbac_match.specs.Matcher.{matcher_holds};
 ghost use Rattle.rbac_match.specs.declared.matcher.Matcher.TheVariants.{Port, PortRange as PortsInARow};
-ghost use Rattle.rbac_match.specs.steps.Ports.{AreNoBounds};
+ghost use Rattle.rbac_match.specs.private.Ports.{AreNoBounds};
 
 use crate::keys::{END, RANGE, START};
 use attributes::Request;

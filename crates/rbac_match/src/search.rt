@@ -6,7 +6,7 @@ ghost use Rattle.std.specs.Prelude.{◌≡◌, ◌<◌, ◌≤◌, ℕ, List, []
 ghost use Rattle.std.specs.Char.{to_ascii_lowercase};
 ghost use Rattle.std.specs.Str.{str_to_ascii_lowercase};
 ghost use Rattle.rbac_match.specs.Text.{is_substring};
-ghost use Rattle.rbac_match.specs.steps.Search.{EndsWithMost, AreBorders, AreAllBorders};
+ghost use Rattle.rbac_match.specs.private.Search.{EndsWithMost, AreBorders, AreAllBorders};
 
 use std::alloc::{AllocError, Global};
 

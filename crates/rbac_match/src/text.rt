@@ -12,7 +12,7 @@ ghost use Rattle.proto_wire.specs.Values.{bytes_at};
 ghost use Rattle.proto_wire.specs.declared.refusal.Refusal.TheVariants.{Missing};
 ghost use Rattle.proto_wire.specs.Oneof.{last_number, member_in};
 ghost use Rattle.rbac_match.specs.Text.{is_substring, pattern_holds, string_members, IsSought, IsTextMatcher, SoughtFault, TextFault};
-ghost use Rattle.rbac_match.specs.steps.Leaves.{pattern_of};
+ghost use Rattle.rbac_match.specs.private.Leaves.{pattern_of};
 
 use memchr::memmem;
 use proto_wire::{

@@ -1,6 +1,6 @@
 //! The leaves that decide, in words for an operator. No contract describes these texts.
 
-ghost use Rattle.rbac_match.specs.steps.Leaves.{GoodLeaf, GoodName, GoodText, IsWithin};
+ghost use Rattle.rbac_match.specs.private.Leaves.{GoodLeaf, GoodName, GoodText, IsWithin};
 
 use crate::authenticated::peer_name;
 use crate::causes::{Cause, Causes, Step};

@@ -22,8 +22,8 @@ use Rattle.rbac_policy.specs.Message.{IsCondition, IsPolicy, condition_in}
 use Rattle.rbac_policy.specs.Named.{named_views, policy_view}
 use Rattle.rbac_policy.specs.Verdict.{IsUnconditional, IsVerdict, SomeAsked, condition_holds, policy_matches, sides_match}
 use Rattle.rbac_policy.specs.declared.policy.NamedPolicy.{NamedPolicy}
-use Rattle.rbac_policy.specs.steps.Action.{allows}
-use Rattle.rbac_policy.specs.steps.Runs.{HaveNoConditions, IsFirst, PassesBound, RunsAs, SomeAsks, Tells}
+use Rattle.rbac_policy.specs.private.Action.{allows}
+use Rattle.rbac_policy.specs.private.Runs.{HaveNoConditions, IsFirst, PassesBound, RunsAs, SomeAsks, Tells}
 use Rattle.rbac_policy.proofs.Besides.{Beside, beside_map, found_itself, name_same, sorted_beside, t_of, there}
 use Rattle.rbac_policy.proofs.First.{Passes, in_rest, least_first, lesser_in_list, lesser_in_map, stands, verdict}
 use Rattle.rbac_policy.proofs.Programs.{not_both, program_unique, run_is_met, within_bound}

@@ -8,7 +8,7 @@ use Rattle.cel_tree.specs.Checked.{CelChecked}
 use Rattle.cel_tree.specs.Message.{IsExprOf}
 use Rattle.cel_read.proofs.CheckedLaws.{expr_given, expr_unique}
 use Rattle.proto_wire.specs.Maps.{Entry, text, AreValues}
-use Rattle.proto_wire.specs.steps.Maps.{Held}
+use Rattle.proto_wire.specs.private.Maps.{Held}
 use Rattle.proto_wire.proofs.MapOrder.{entries_from_entries}
 use Rattle.proto_wire.proofs.Unique.{merges_unique}
 use Rattle.rbac_policy.specs.Condition.{IsProgramOf, Program}
@@ -18,7 +18,7 @@ use Rattle.rbac_policy.specs.Fault.{SomeCost}
 use Rattle.rbac_policy.specs.Filter.{Filter, Policy}
 use Rattle.rbac_policy.specs.Message.{IsCondition, IsPolicy, condition_in}
 use Rattle.rbac_policy.specs.declared.filter.Action.{Action}
-use Rattle.rbac_policy.specs.steps.Conditions.{IsEnforced}
+use Rattle.rbac_policy.specs.private.Conditions.{IsEnforced}
 use Rattle.rbac_policy.proofs.Besides.{Beside, beside_find, beside_map, beside_maps, in_a_row, name_same, sorted_beside}
 use Rattle.rbac_policy.proofs.Programs.{cost_unique, program_costs, program_of_cost, program_unique}
 

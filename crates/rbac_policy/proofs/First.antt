@@ -10,7 +10,7 @@ use Rattle.attributes.specs.Request.{RequestValue}
 use Rattle.rbac_policy.specs.Filter.{Policy, Filter}
 use Rattle.attributes.specs.Headers.{name_cmp}
 use Rattle.rbac_policy.specs.Verdict.{Matches, policy_matches, SomeMatches, IsLeastMatch, number_of, LetsThrough, IsVerdict}
-use Rattle.rbac_policy.specs.steps.Action.{allows}
+use Rattle.rbac_policy.specs.private.Action.{allows}
 use Rattle.rbac_policy.specs.declared.filter.Action.{Action}
 use Rattle.rbac_policy.specs.declared.filter.Action.TheVariants.{Allow, Deny, Log}
 use Rattle.rbac_policy.proofs.Besides.{found_itself, name_same, there}

@@ -10,7 +10,7 @@ use Rattle.rbac_policy.specs.Condition.{Program}
 use Rattle.rbac_policy.specs.Filter.{Policy}
 use Rattle.rbac_policy.specs.Named.{policy_view}
 use Rattle.rbac_policy.specs.declared.policy.NamedPolicy.{NamedPolicy}
-use Rattle.rbac_policy.specs.steps.Runs.{Asks, HaveNoConditions, IsFirst, SomeAsks, Tells}
+use Rattle.rbac_policy.specs.private.Runs.{Asks, HaveNoConditions, IsFirst, SomeAsks, Tells}
 
 module _ (r : RequestValue) where
   -- all told that they do not match

@@ -15,8 +15,8 @@ use Rattle.rbac_policy.specs.Verdict.{sides_match}
 use Rattle.rbac_policy.specs.declared.policy_index.Need.{Need}
 use Rattle.rbac_policy.specs.declared.policy.NamedPolicy.{NamedPolicy}
 use Rattle.rbac_policy.specs.Named.{policy_view}
-use Rattle.rbac_policy.specs.steps.Runs.{Tells}
-use Rattle.rbac_policy.specs.steps.PolicyIndex.{AreInOrder, AreNeeded, IsNeeded, IsRuledOut, Meets, method_name, mix, number_from, start_number, value_number, value_of}
+use Rattle.rbac_policy.specs.private.Runs.{Tells}
+use Rattle.rbac_policy.specs.private.PolicyIndex.{AreInOrder, AreNeeded, IsNeeded, IsRuledOut, Meets, method_name, mix, number_from, start_number, value_number, value_of}
 
 same_or_other : (a b : ℕ) → (a ≡ b) ⊎ (a ≢ b)
 same_or_other zero zero = inl refl

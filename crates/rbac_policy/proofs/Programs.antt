@@ -25,7 +25,7 @@ use Rattle.machine_code.specs.Machine.{Ends, RunsOut}
 use Rattle.machine_code.proofs.Chains.{never_both_lem, one_end_lem}
 use Rattle.rbac_policy.specs.Condition.{IsProgramOf, Program, came_true, is_met}
 use Rattle.rbac_policy.specs.Costs.{Costs}
-use Rattle.rbac_policy.specs.steps.Runs.{RunsAs}
+use Rattle.rbac_policy.specs.private.Runs.{RunsAs}
 
 -- ---- limits that a request is within
 

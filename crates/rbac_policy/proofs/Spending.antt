@@ -14,8 +14,8 @@ use Rattle.rbac_policy.specs.Fault.{HoldsPolicies, PolicyFault, PolicyHas, not_b
 use Rattle.rbac_policy.specs.Filter.{Policy}
 use Rattle.cel_tree.specs.Message.{ArePresent}
 use Rattle.rbac_policy.specs.Message.{condition_in}
-use Rattle.rbac_policy.specs.steps.Conditions as step
-use Rattle.rbac_policy.specs.steps.Conditions.{ConditionFault, ConditionsFault, ExpressionFault, IsEnforced, cost_too_much}
+use Rattle.rbac_policy.specs.private.Conditions as step
+use Rattle.rbac_policy.specs.private.Conditions.{ConditionFault, ConditionsFault, ExpressionFault, IsEnforced, cost_too_much}
 use Rattle.rbac_policy.proofs.Besides.{Beside}
 use Rattle.rbac_policy.proofs.Enforcing.{all_cost, cost_of_one, costs_append}
 

@@ -43,7 +43,7 @@ use Rattle.proto_wire.proofs.WholeMaps.{map_disjoint}
 use Rattle.rbac_policy.specs.Fault.{PolicyFault, PolicyHas, SomeCost, HoldsPolicies, policy_fields, lacks_side, both_conditions, unreadable, untyped, not_bool, in_permission, in_principal, RulesFault, bad_action, audited, in_policies, too_many, FilterFault, filter_fields, no_rules, rules_fields, in_rules}
 use Rattle.rbac_policy.specs.declared.filter.Action.{Action}
 use Rattle.rbac_policy.specs.declared.filter.Action.TheVariants.{Allow, Deny, Log}
-use Rattle.rbac_policy.specs.steps.Conditions.{IsEnforced}
+use Rattle.rbac_policy.specs.private.Conditions.{IsEnforced}
 use Rattle.rbac_policy.proofs.Besides.{Beside, beside_length, beside_map, in_a_row, sorted_beside}
 use Rattle.rbac_policy.proofs.Enforcing.{all_cost, apart, cost_most, enforced_beside, enforced_costs, enforced_there, filter_enforced}
 

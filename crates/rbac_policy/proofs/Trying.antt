@@ -26,8 +26,8 @@ use Rattle.rbac_policy.specs.declared.reason.Reason.{Reason}
 use Rattle.rbac_policy.specs.declared.reason.Reason.TheVariants.{NoPermission, NoPrincipal, Matches, ConditionFalse, ConditionFails, ConditionTrue}
 use Rattle.rbac_policy.specs.declared.trials.Trial.{Trial}
 use Rattle.stack_machine.specs.declared.error.RunError.{RunError}
-use Rattle.rbac_policy.specs.steps.Runs.{IsFirst, RunsAs, Tells}
-use Rattle.rbac_policy.specs.steps.Trials.{EndsWith, HasRunReason, TakesOf}
+use Rattle.rbac_policy.specs.private.Runs.{IsFirst, RunsAs, Tells}
+use Rattle.rbac_policy.specs.private.Trials.{EndsWith, HasRunReason, TakesOf}
 use Rattle.rbac_policy.proofs.Besides.{Beside}
 use Rattle.rbac_policy.proofs.Deciding.{GoodCondition, Stands, listed, order, same_sides, views_are}
 use Rattle.rbac_policy.proofs.FirstRun.{Failed}

@@ -13,4 +13,4 @@ pub mod Admitted
 pub mod Admission
 pub mod Budget
 pub mod Places
-pub mod steps
+pub mod private

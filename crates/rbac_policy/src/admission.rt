@@ -17,7 +17,7 @@ ghost use Rattle.rbac_policy.specs.declared.filter.Action.TheVariants.{Log};
 ghost use Rattle.rbac_policy.specs.Fault.{FilterFault, HoldsPolicies, RulesFault};
 ghost use Rattle.rbac_policy.specs.Admission.{Admits, Fault};
 ghost use Rattle.rbac_policy.specs.Places.{FieldsOr, PlacedOr, of_filter};
-ghost use Rattle.rbac_policy.specs.steps.Conditions.{ConditionsFault};
+ghost use Rattle.rbac_policy.specs.private.Conditions.{ConditionsFault};
 ghost use Rattle.rbac_policy.specs.Admitted.{filter_view, limits_view, filter_rules_view};
 
 use crate::filter::{Action, Admitted, FilterRules};

@@ -13,7 +13,7 @@ ghost use Rattle.rbac_policy.specs.Fault.{HoldsPolicies};
 ghost use Rattle.rbac_policy.specs.Filter.{Policy};
 ghost use Rattle.rbac_policy.specs.Keys.{rules_field};
 ghost use Rattle.rbac_policy.specs.Message.{IsPolicy};
-ghost use Rattle.rbac_policy.specs.steps.Named.{names_view};
+ghost use Rattle.rbac_policy.specs.private.Named.{names_view};
 
 use crate::numbers::{CHECKED_CONDITION, POLICIES, RULES};
 use crate::policy::read_policy;

@@ -10,8 +10,8 @@ ghost use Rattle.rbac_policy.specs.Condition.{MemoryOrSteps, Program, TakesTooLo
 ghost use Rattle.rbac_policy.specs.Filter.{Filter, Policy};
 ghost use Rattle.rbac_policy.specs.Named.{policy_view};
 ghost use Rattle.rbac_policy.specs.Verdict.{IsUnconditional, IsVerdict, SomeAsked, sides_match};
-ghost use Rattle.rbac_policy.specs.steps.Runs.{AnyProgram, Asks, HaveFailed, HaveNoConditions, IsFirst, PassesBound, SomeAsks, Tells};
-ghost use Rattle.rbac_policy.specs.steps.PolicyIndex.{IsRuledOut, IsPolicyIndex, AreKeysFor};
+ghost use Rattle.rbac_policy.specs.private.Runs.{AnyProgram, Asks, HaveFailed, HaveNoConditions, IsFirst, PassesBound, SomeAsks, Tells};
+ghost use Rattle.rbac_policy.specs.private.PolicyIndex.{IsRuledOut, IsPolicyIndex, AreKeysFor};
 
 use crate::filter::{Admitted, Verdict};
 use crate::policy::NamedPolicy;

@@ -5,7 +5,7 @@ ghost use Rattle.std.specs.FinMap.{is_sorted};
 ghost use Rattle.attributes.specs.Headers.{name_cmp};
 ghost use Rattle.rbac_policy.specs.Enforced.{bounds_of};
 ghost use Rattle.rbac_policy.specs.Named.{named_views, policy_view};
-ghost use Rattle.rbac_policy.specs.steps.PolicyIndex.{IsPolicyIndex};
+ghost use Rattle.rbac_policy.specs.private.PolicyIndex.{IsPolicyIndex};
 
 use crate::policy::NamedPolicy;
 use crate::policy_index::PolicyIndex;
@@ -25,7 +25,7 @@ pub(crate) enum Action {
 }
 
 impl Action {
-    ghost use Rattle.rbac_policy.specs.steps.Action.{allows};
+    ghost use Rattle.rbac_policy.specs.private.Action.{allows};
 
     /// Whether it lets a request through, if `is_match` says whether some policy matches.
     pub(crate) fn allows(self, is_match: bool) -> bool

@@ -8,7 +8,7 @@ ghost use Rattle.rbac_match.specs.View.{rules_view};
 ghost use Rattle.rbac_policy.specs.Condition.{Program};
 ghost use Rattle.rbac_policy.specs.Filter.{Policy};
 ghost use Rattle.rbac_policy.specs.Named.{policy_view};
-ghost use Rattle.rbac_policy.specs.steps.PolicyIndex.{AreNeeded, IsNeeded, AreRequestKeys, IsRuledOut, IsPolicyIndex, Meets, AreKeysFor, mix, number_from, start_number, value_number, value_of};
+ghost use Rattle.rbac_policy.specs.private.PolicyIndex.{AreNeeded, IsNeeded, AreRequestKeys, IsRuledOut, IsPolicyIndex, Meets, AreKeysFor, mix, number_from, start_number, value_number, value_of};
 
 use crate::policy::NamedPolicy;
 use attributes::Request;

@@ -11,8 +11,8 @@ ghost use Rattle.rbac_policy.specs.Filter.{Filter};
 ghost use Rattle.rbac_policy.specs.Named.{named_views, policy_view};
 ghost use Rattle.rbac_policy.specs.Trials.{AreTrials, HasReason, Means, TakesSteps};
 ghost use Rattle.rbac_policy.specs.Verdict.{SomeAsked};
-ghost use Rattle.rbac_policy.specs.steps.Runs.{Asks, PassesBound, SomeAsks};
-ghost use Rattle.rbac_policy.specs.steps.Trials.{HasRunReason};
+ghost use Rattle.rbac_policy.specs.private.Runs.{Asks, PassesBound, SomeAsks};
+ghost use Rattle.rbac_policy.specs.private.Trials.{HasRunReason};
 
 use crate::filter::Admitted;
 use crate::policy::NamedPolicy;

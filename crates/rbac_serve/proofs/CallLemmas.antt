@@ -17,7 +17,7 @@ use Rattle.proxy_core.specs.declared.told.Told.{Told}
 use Rattle.rbac_serve.specs.Tables.{FitsFor, WorkerValue, new_worker, nothing_waits, sessions_of, state_of, waiting_at, waiting_of}
 use Rattle.rbac_serve.specs.Turns.{IsReached, TellsTurn, TurnDoes, Works, answer_sent}
 use Rattle.rbac_serve.specs.declared.guest.Guest.{Guest}
-use Rattle.rbac_serve.specs.steps.Guests.{AreHeard, free_guest, free_guests}
+use Rattle.rbac_serve.specs.private.Guests.{AreHeard, free_guest, free_guests}
 use Rattle.rbac_serve.proofs.PlaceLemmas.{fits_free, fits_put_is, free_sessions, free_waits, none_past, now_there, put_in, put_twice, session_at, session_back, state_past, state_put, waits_at, waits_past}
 use Rattle.rbac_serve.proofs.Turning.{close_works, heard_at, heard_turn, open_works, start_reached, works_more}
 

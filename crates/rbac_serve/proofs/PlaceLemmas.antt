@@ -13,7 +13,7 @@ use Rattle.http_front.specs.Front.{FrontValue}
 use Rattle.proxy_core.specs.Step.{front_in, nobody, with_conn}
 use Rattle.rbac_serve.specs.Tables.{FitsFor, WorkerValue, nothing_waits, sessions_of, state_of, waiting_at, waiting_of}
 use Rattle.rbac_serve.specs.declared.guest.Guest.{Guest}
-use Rattle.rbac_serve.specs.steps.Guests.{free_guest, free_guests}
+use Rattle.rbac_serve.specs.private.Guests.{free_guest, free_guests}
 
 -- ---- limits
 

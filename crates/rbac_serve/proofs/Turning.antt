@@ -15,7 +15,7 @@ use Rattle.proxy_core.proofs.Places.{nobody_length}
 use Rattle.proxy_core.proofs.Tables.{bytes_step, close_step, open_step}
 use Rattle.rbac_serve.specs.Tables.{WorkerValue, closed_at, new_worker, waiting_at}
 use Rattle.rbac_serve.specs.Turns.{IsReached, TellsTurn, Turn, called, answer_sent, request_sent, TurnDoes, TurnsDo, Works, calls_of}
-use Rattle.rbac_serve.specs.steps.Guests.{AreHeard}
+use Rattle.rbac_serve.specs.private.Guests.{AreHeard}
 use Rattle.rbac_serve.proofs.PlaceLemmas.{put_in}
 
 -- ---- what stays

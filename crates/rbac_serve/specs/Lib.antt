@@ -3,4 +3,4 @@ pub mod Strangers
 pub mod Tables
 pub mod Turns
 pub mod Workers
-pub mod steps
+pub mod private

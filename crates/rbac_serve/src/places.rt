@@ -3,7 +3,7 @@
 ghost use Rattle.std.specs.Prelude.{◌≡◌, ◌<◌, ◌++◌, ℕ, List, Some, IfOk, OnErr, set, slice_get, vec_len};
 ghost use Rattle.ads.specs.Ends.{client_view};
 ghost use Rattle.rbac_serve.specs.Tables.{FitsFor};
-ghost use Rattle.rbac_serve.specs.steps.Guests.{AreHeard, free_guest, free_guests};
+ghost use Rattle.rbac_serve.specs.private.Guests.{AreHeard, free_guest, free_guests};
 
 use crate::guest::Guest;
 use crate::outbox::Outbox;

@@ -8,7 +8,7 @@ use Rattle.program_jobs.specs.Jobs.{LeavesFault}
 use Rattle.rbacd.specs.Run.{EndsServe, LacksSettings, Ran}
 use Rattle.stream_pumps.specs.Rounds.{Link}
 use Rattle.command_line.specs.Words.{AreMistaken}
-use Rattle.program_jobs.specs.steps.Stopping.{MemoryOrStop}
+use Rattle.program_jobs.specs.private.Stopping.{MemoryOrStop}
 use Rattle.program_jobs.specs.declared.job_fault.JobFault.{JobFault}
 use Rattle.program_jobs.specs.declared.job_fault.JobFault.TheVariants as faults
 

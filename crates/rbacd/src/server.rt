@@ -1,7 +1,7 @@
 //! The job that serves connections until it is to end.
 ghost use Rattle.std.specs.Prelude.{ℕ, List, IfErr, IfOk, string_bytes};
 ghost use Rattle.rbacd.specs.Run.{EndsHost, EndsServe, LacksSettings};
-ghost use Rattle.program_jobs.specs.steps.Stopping.{MemoryOrStop};
+ghost use Rattle.program_jobs.specs.private.Stopping.{MemoryOrStop};
 
 use command_line::ServeWords;
 use program_jobs::{

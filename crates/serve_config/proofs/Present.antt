@@ -14,7 +14,7 @@ use Rattle.head_map.specs.declared.fact.NamedFact.{NamedFact}
 use Rattle.serve_config.specs.Maps.{AreRequired, IsNamedBy, NamesField, member_name, present, valued}
 use Rattle.serve_config.specs.Members.{member_of}
 use Rattle.serve_config.specs.declared.map.Member.{Member}
-use Rattle.serve_config.specs.steps.Plain.{IsPlain}
+use Rattle.serve_config.specs.private.Plain.{IsPlain}
 
 -- one pair more
 pub zip_push : {A B : Type 0} (R : A → B → Type 0) (xs : List A) (ys : List B) (x : A) (y : B)

@@ -2,4 +2,4 @@ pub mod Addresses
 pub mod Members
 pub mod Maps
 pub mod Settings
-pub mod steps
+pub mod private

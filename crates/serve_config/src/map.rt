@@ -7,7 +7,7 @@ ghost use Rattle.head_map.specs.Mappings.{told_name};
 ghost use Rattle.serve_config.specs.Maps.{AreRequired, IsMappingBy, IsNamedBy, IsPathsBy, member_name, present};
 ghost use Rattle.serve_config.specs.Members.{data_of, member_of};
 ghost use Rattle.serve_config.specs.declared.map.Member.TheVariants as members;
-ghost use Rattle.serve_config.specs.steps.Plain.{IsPlain};
+ghost use Rattle.serve_config.specs.private.Plain.{IsPlain};
 
 use crate::config::Paths;
 use crate::fault::ServeConfigFault;

@@ -5,8 +5,8 @@ ghost use Rattle.cel_value.specs.View.{answer_view, entries_view, map_view, pair
 ghost use Rattle.cel_ops.specs.Arithmetic.{int_answer};
 ghost use Rattle.cel_ops.specs.Attributes.{header_entries};
 ghost use Rattle.cel_ops.specs.Collections.{keyed, numbered};
-ghost use Rattle.stack_machine.specs.steps.Held.{held_view};
-ghost use Rattle.stack_machine.specs.steps.Pairs.{pair_answers, pair_view};
+ghost use Rattle.stack_machine.specs.private.Held.{held_view};
+ghost use Rattle.stack_machine.specs.private.Pairs.{pair_answers, pair_view};
 
 use crate::held::Held;
 use attributes::Headers;

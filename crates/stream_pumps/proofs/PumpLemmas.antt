@@ -16,7 +16,7 @@ use Rattle.program_texts.specs.Output.{Takes}
 use Rattle.stream_pumps.specs.Pumps.{AllButLast, Hears, LastIs, WrittenInTurn, http_of, joined}
 use Rattle.stream_pumps.specs.declared.pumps.Turn.{Turn}
 use Rattle.stream_pumps.specs.declared.pumps.Turn.TheVariants as turns
-use Rattle.stream_pumps.specs.steps.Pumping.{IsTurnOf}
+use Rattle.stream_pumps.specs.private.Pumping.{IsTurnOf}
 
 pub joined_more : (chunks : List (List ℕ)) (chunk : List ℕ) → joined (chunks ++ chunk ∷ []) ≡ joined chunks ++ chunk
 joined_more [] chunk = append-nil chunk

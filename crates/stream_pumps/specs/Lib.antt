@@ -1,4 +1,4 @@
 pub mod Pumps
 pub mod ControlPump
 pub mod Rounds
-pub mod steps
+pub mod private

@@ -7,7 +7,7 @@ ghost use Rattle.proxy_core.specs.Proxies.{proxy_view};
 ghost use Rattle.ads.specs.Ends.{control_view};
 ghost use Rattle.stream_pumps.specs.ControlPump.{HearsRequests, ServesStream};
 ghost use Rattle.stream_pumps.specs.Pumps.{EndsUpdates, Hears, Opens, Receives, Serves, TakesResponse};
-ghost use Rattle.stream_pumps.specs.steps.Pumping.{Answers, Feeds, IsTurnOf, Updates};
+ghost use Rattle.stream_pumps.specs.private.Pumping.{Answers, Feeds, IsTurnOf, Updates};
 
 use crate::log::Log;
 use crate::log_lines::End;

@@ -4,11 +4,11 @@ use Rattle.std.specs.Borrow.{Bor}
 use Rattle.std.proofs.lemmas.List.{map_more, map-append}
 use Rattle.proto_wire.specs.Fields.{Wire, len}
 use Rattle.proto_wire.specs.Shortest.{field_of}
-use Rattle.proto_wire.specs.steps.Writing.{Keeps}
+use Rattle.proto_wire.specs.private.Writing.{Keeps}
 use Rattle.proto_wire.proofs.ShortestLemmas.{shortest_append}
 use Rattle.xds_wire.specs.View.{texts_view}
 use Rattle.xds_wire.specs.Written.{strings_fields, AreEach}
-use Rattle.xds_wire.specs.steps.Writing.{Adds}
+use Rattle.xds_wire.specs.private.Writing.{Adds}
 
 -- nothing is written
 pub adds_none : (before : List ℕ) → Adds before [] before

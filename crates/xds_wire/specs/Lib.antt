@@ -4,4 +4,4 @@ pub mod Envelope
 pub mod Discovery
 pub mod View
 pub mod Written
-pub mod steps
+pub mod private

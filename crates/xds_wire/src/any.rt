@@ -8,10 +8,10 @@ ghost use Rattle.proto_wire.specs.Merge.{parts_view};
 ghost use Rattle.proto_wire.specs.Refusal.{MemoryOr};
 ghost use Rattle.xds_wire.specs.Discovery.{AreAnyFields, AnyFieldsFault, IsAny, AnyFault};
 ghost use Rattle.xds_wire.specs.Envelope.{IsMerged, MergedFault, AreRepeated, RepeatedFault, SomeOf};
-ghost use Rattle.proto_wire.specs.steps.Writing.{Keeps};
+ghost use Rattle.proto_wire.specs.private.Writing.{Keeps};
 ghost use Rattle.xds_wire.specs.View.{any_view};
 ghost use Rattle.xds_wire.specs.Written.{AnyWritten, AreOptional, AreEach};
-ghost use Rattle.xds_wire.specs.steps.Writing.{Adds};
+ghost use Rattle.xds_wire.specs.private.Writing.{Adds};
 
 use crate::writing::{put_bytes, put_text};
 use proto_wire::{Field, Refusal, Writer, bytes_at, payloads_of, read_parts, text_at};

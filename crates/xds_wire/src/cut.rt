@@ -1,7 +1,7 @@
 //! Cuts one frame off the bytes of a stream.
 
 ghost use Rattle.std.specs.Prelude.{◌<◌, ◌++◌};
-ghost use Rattle.xds_wire.specs.steps.Pieces.{head_view, IsPiece};
+ghost use Rattle.xds_wire.specs.private.Pieces.{head_view, IsPiece};
 
 use crate::fault::FrameFault;
 use crate::head::{HEAD, Head};

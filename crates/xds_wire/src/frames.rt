@@ -3,7 +3,7 @@
 ghost use Rattle.std.specs.Prelude.{◌≡◌, ◌⊎◌, ◌++◌, ◌+◌, ◌<◌, ◌≤◌, ◌^◌, ℕ, Err, List, length, IfOk, IfErr, OnOk, OnErr, MatchBool};
 ghost use Rattle.xds_wire.specs.Frames.{frame_of};
 ghost use Rattle.xds_wire.specs.Stream.{start, Feeds, Takes, IsUnfinished, IsBrokenBy, StaysPartial, CompletesOne};
-ghost use Rattle.xds_wire.specs.steps.Pieces.{tail_view, IsState};
+ghost use Rattle.xds_wire.specs.private.Pieces.{tail_view, IsState};
 
 use crate::fault::FrameError;
 use crate::head::{HEAD, Head};
@@ -28,7 +28,7 @@ impl Model for Frames {
 
     ghost Value = { Kept };
 
-    ghost use Rattle.xds_wire.specs.steps.Pieces.{tail_view, IsState};
+    ghost use Rattle.xds_wire.specs.private.Pieces.{tail_view, IsState};
 
     ghost view = { λ f. record {
       max = f.max;

@@ -1,7 +1,7 @@
 //! The head of a frame: its flag, and the length of its message.
 
 ghost use Rattle.std.specs.Prelude.{◌≡◌, ◌≤◌, ◌<◌, ◌++◌, [], min, ◌+◌, length};
-ghost use Rattle.xds_wire.specs.steps.Pieces.{head_view};
+ghost use Rattle.xds_wire.specs.private.Pieces.{head_view};
 
 /// The number of bytes of a head: a flag, and four of length.
 pub(crate) const HEAD: usize = 5;

@@ -9,7 +9,7 @@ ghost use Rattle.xds_wire.specs.Discovery.{AreNodeFields, NodeFieldsFault, IsNod
 ghost use Rattle.xds_wire.specs.Envelope.{IsMerged, MergedFault};
 ghost use Rattle.xds_wire.specs.View.{node_view};
 ghost use Rattle.xds_wire.specs.Written.{NodeWritten, AreOptional};
-ghost use Rattle.xds_wire.specs.steps.Writing.{Adds};
+ghost use Rattle.xds_wire.specs.private.Writing.{Adds};
 
 use crate::writing::put_text;
 use proto_wire::{Field, Refusal, Writer, payloads_of, read_parts, text_at};

@@ -3,7 +3,7 @@
 ghost use Rattle.std.specs.Prelude.{◌≡◌, IfOk, IfErr, OnOk, OnErr};
 ghost use Rattle.proto_wire.specs.Refusal.{MemoryOr};
 ghost use Rattle.xds_wire.specs.Discovery.{IsRequest, RequestFault};
-ghost use Rattle.proto_wire.specs.steps.Writing.{Keeps};
+ghost use Rattle.proto_wire.specs.private.Writing.{Keeps};
 ghost use Rattle.xds_wire.specs.View.{request_view};
 ghost use Rattle.xds_wire.specs.Written.{RequestWritten, AddsMessage};
 

@@ -3,7 +3,7 @@
 ghost use Rattle.std.specs.Prelude.{◌≡◌, IfOk, IfErr, OnOk, OnErr};
 ghost use Rattle.proto_wire.specs.Refusal.{MemoryOr};
 ghost use Rattle.xds_wire.specs.Discovery.{IsResponse, ResponseFault};
-ghost use Rattle.proto_wire.specs.steps.Writing.{Keeps};
+ghost use Rattle.proto_wire.specs.private.Writing.{Keeps};
 ghost use Rattle.xds_wire.specs.View.{response_view};
 ghost use Rattle.xds_wire.specs.Written.{ResponseWritten, AddsMessage};
 

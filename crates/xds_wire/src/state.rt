@@ -3,7 +3,7 @@
 ghost use Rattle.std.specs.Prelude.{◌≡◌, ◌++◌, ◌+◌, ◌*◌, ◌<◌, ◌≤◌, ℕ, List, length, vec_len, IfOk, IsOk, OnOk, OnErr, MatchBool};
 ghost use Rattle.xds_wire.specs.Frames.{broken, head_of, IsLength, Cut};
 ghost use Rattle.xds_wire.specs.Stream.{CompletesOne, Resumes, StaysPartial};
-ghost use Rattle.xds_wire.specs.steps.Pieces.{head_view, tail_view, IsState};
+ghost use Rattle.xds_wire.specs.private.Pieces.{head_view, tail_view, IsState};
 
 use crate::cut::{Piece, cut_frame};
 use crate::fault::FrameFault;

@@ -9,7 +9,7 @@ ghost use Rattle.xds_wire.specs.Discovery.{AreStatusFields, StatusFieldsFault, I
 ghost use Rattle.xds_wire.specs.Envelope.{IsMerged, MergedFault};
 ghost use Rattle.xds_wire.specs.View.{status_view};
 ghost use Rattle.xds_wire.specs.Written.{StatusWritten, AreOptional, int32_fields};
-ghost use Rattle.xds_wire.specs.steps.Writing.{Adds};
+ghost use Rattle.xds_wire.specs.private.Writing.{Adds};
 
 use crate::writing::put_text;
 use proto_wire::{Field, Refusal, Writer, int32_at, payloads_of, read_parts, text_at};

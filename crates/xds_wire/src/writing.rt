@@ -2,10 +2,10 @@
 
 ghost use Rattle.std.specs.Prelude.{◌≡◌, take, OnOk, OnErr};
 ghost use Rattle.proto_wire.specs.Fields.{IsFieldNumber};
-ghost use Rattle.proto_wire.specs.steps.Writing.{Keeps};
+ghost use Rattle.proto_wire.specs.private.Writing.{Keeps};
 ghost use Rattle.xds_wire.specs.View.{texts_view};
 ghost use Rattle.xds_wire.specs.Written.{string_fields, strings_fields};
-ghost use Rattle.xds_wire.specs.steps.Writing.{Adds};
+ghost use Rattle.xds_wire.specs.private.Writing.{Adds};
 
 use proto_wire::Writer;
 use std::alloc::AllocError;

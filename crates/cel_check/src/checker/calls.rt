@@ -7,9 +7,9 @@ ghost use Rattle.cel_value.specs.Texts.{points_of, text_view};
 ghost use Rattle.cel_value.specs.Types.{type_view};
 ghost use Rattle.cel_types.specs.Elaborated.{kinds};
 ghost use Rattle.cel_types.specs.View.{expr_view};
-ghost use Rattle.cel_types.specs.steps.ExprViews.{exprs_view};
-ghost use Rattle.cel_check.specs.steps.Checks.{IsCalled};
-ghost use Rattle.cel_check.specs.steps.Kinds.{NoCall};
+ghost use Rattle.cel_types.specs.private.ExprViews.{exprs_view};
+ghost use Rattle.cel_check.specs.private.Checks.{IsCalled};
+ghost use Rattle.cel_check.specs.private.Kinds.{NoCall};
 ghost use Rattle.proto_wire.specs.Refusal.{MemoryOr};
 
 use cel_overload::{Found, Overload, OverloadFault, ResultType, find_overload};

@@ -7,7 +7,7 @@ ghost use Rattle.cel_value.specs.Texts.{points_of};
 ghost use Rattle.cel_value.specs.Types.{type_view};
 ghost use Rattle.cel_types.specs.Typing.{RefAgrees, TypeAgrees, TypeGiven};
 ghost use Rattle.cel_types.specs.TypingFaults.{NodeTypeFault, RefDiffers};
-ghost use Rattle.cel_check.specs.steps.Kinds.{NotGiven};
+ghost use Rattle.cel_check.specs.private.Kinds.{NotGiven};
 ghost use Rattle.proto_wire.specs.declared.refusal.Refusal.TheVariants.{BadReference};
 
 use cel_tree::{Reference, TypeEntry};

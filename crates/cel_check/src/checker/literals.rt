@@ -5,8 +5,8 @@ ghost use Rattle.cel_tree.specs.View.{type_entry_view};
 ghost use Rattle.cel_value.specs.Types.{type_view};
 ghost use Rattle.cel_types.specs.Elaborated.{kinds};
 ghost use Rattle.cel_types.specs.Typing.{IsList, IsMap, TypeGiven};
-ghost use Rattle.cel_types.specs.steps.ExprViews.{exprs_view};
-ghost use Rattle.cel_check.specs.steps.Kinds.{IsListOf, IsMapOf, NoListOf, NoMapOf, NotStated};
+ghost use Rattle.cel_types.specs.private.ExprViews.{exprs_view};
+ghost use Rattle.cel_check.specs.private.Kinds.{IsListOf, IsMapOf, NoListOf, NoMapOf, NotStated};
 ghost use Rattle.proto_wire.specs.Refusal.{MemoryOr};
 
 use crate::checker::entries::type_given;

@@ -2,11 +2,11 @@
 
 ghost use Rattle.std.specs.Prelude.{◌≡◌, ◌+◌, ◌<◌, ◌≤◌, IfErr, OnOk, nat_lt, suc};
 ghost use Rattle.cel_tree.specs.View.{target_of, tree_view};
-ghost use Rattle.cel_tree.specs.steps.TreeViews.{boxed_view, loop_view, tree_entries_view, trees_view};
+ghost use Rattle.cel_tree.specs.private.TreeViews.{boxed_view, loop_view, tree_entries_view, trees_view};
 ghost use Rattle.cel_value.specs.Texts.{text_view};
 ghost use Rattle.cel_types.specs.Names.{variable_count, variables_of};
 ghost use Rattle.cel_types.specs.Typing.{locals_in, locals_in_each, locals_in_entries, locals_in_target, most_locals};
-ghost use Rattle.cel_check.specs.steps.Scopes.{locals_in_loop};
+ghost use Rattle.cel_check.specs.private.Scopes.{locals_in_loop};
 ghost use Rattle.proto_wire.specs.declared.refusal.Refusal.TheVariants.{TooLarge};
 
 use crate::checker::loops::variables_of;

@@ -10,7 +10,7 @@ ghost use Rattle.cel_types.specs.Elaborated.{typed_attribute};
 ghost use Rattle.cel_types.specs.Names.{bare_root, local, root_of};
 ghost use Rattle.cel_types.specs.Typing.{most_locals, name_type};
 ghost use Rattle.cel_types.specs.View.{expr_view};
-ghost use Rattle.cel_check.specs.steps.Scopes.{IsName, name_view, scope_view};
+ghost use Rattle.cel_check.specs.private.Scopes.{IsName, name_view, scope_view};
 ghost use Rattle.proto_wire.specs.declared.refusal.Refusal.TheVariants.{UnknownName};
 
 use crate::checker::scope::{FoundLocal, Scope};

@@ -3,17 +3,17 @@
 ghost use Rattle.std.specs.Prelude.{◌≡◌, ◌≤◌, ◌+◌, IfErr, IfOk, length, map, max};
 ghost use Rattle.cel_tree.specs.Tree.{list_literal, map_literal, select};
 ghost use Rattle.cel_tree.specs.View.{checked_view, loop_of, target_of, tree_view};
-ghost use Rattle.cel_tree.specs.steps.TreeViews.{boxed_view, loop_view, tree_entries_view, trees_view};
+ghost use Rattle.cel_tree.specs.private.TreeViews.{boxed_view, loop_view, tree_entries_view, trees_view};
 ghost use Rattle.cel_value.specs.Texts.{text_view};
 ghost use Rattle.cel_value.specs.Types.{type_view};
 ghost use Rattle.cel_types.specs.Elaborated.{ElaboratesPairs, kind};
 ghost use Rattle.cel_types.specs.Typing.{PairsAgree, locals_in, locals_in_each, locals_in_entries, locals_in_target, maps_of, most_locals};
 ghost use Rattle.cel_types.specs.View.{expr_view};
-ghost use Rattle.cel_types.specs.steps.ExprViews.{exprs_view};
+ghost use Rattle.cel_types.specs.private.ExprViews.{exprs_view};
 ghost use Rattle.cel_tree.specs.Places.{PlacedOr};
 ghost use Rattle.cel_check.specs.Places.{PairFaultAt, SomeFaultAt, TargetFaultAt, TypeFaultAt};
-ghost use Rattle.cel_check.specs.steps.Checks.{AreFound, AreTwo, BodyFault, EitherFault, IsBody, IsFound, IsNode, IsTarget, IsTurn, PlacedInside, StepFault, TurnFault};
-ghost use Rattle.cel_check.specs.steps.Scopes.{locals_in_loop, scope_view};
+ghost use Rattle.cel_check.specs.private.Checks.{AreFound, AreTwo, BodyFault, EitherFault, IsBody, IsFound, IsNode, IsTarget, IsTurn, PlacedInside, StepFault, TurnFault};
+ghost use Rattle.cel_check.specs.private.Scopes.{locals_in_loop, scope_view};
 
 use crate::checker::calls::call_expr;
 use crate::checker::entries::require_type;

@@ -7,8 +7,8 @@ ghost use Rattle.cel_value.specs.Types.{type_view};
 ghost use Rattle.cel_types.specs.Elaborated.{slot};
 ghost use Rattle.cel_types.specs.Names.{bound, local};
 ghost use Rattle.cel_types.specs.Typing.{most_locals};
-ghost use Rattle.cel_check.specs.steps.Kinds.{second_type};
-ghost use Rattle.cel_check.specs.steps.Scopes.{found_slot, found_type, scope_view};
+ghost use Rattle.cel_check.specs.private.Kinds.{second_type};
+ghost use Rattle.cel_check.specs.private.Scopes.{found_slot, found_type, scope_view};
 
 use cel_value::CelType;
 use std::sync::ArcStr;

@@ -12,9 +12,9 @@ ghost use Rattle.cel_types.specs.Names.{joined_name};
 ghost use Rattle.cel_types.specs.Typing.{maps_of, most_locals};
 ghost use Rattle.cel_types.specs.TypingFaults.{IdentFault, SelectFault};
 ghost use Rattle.cel_types.specs.View.{expr_view};
-ghost use Rattle.cel_check.specs.steps.Checks.{IsAttribute, IsNode};
-ghost use Rattle.cel_check.specs.steps.Kinds.{field_of, field_type};
-ghost use Rattle.cel_check.specs.steps.Scopes.{scope_view};
+ghost use Rattle.cel_check.specs.private.Checks.{IsAttribute, IsNode};
+ghost use Rattle.cel_check.specs.private.Kinds.{field_of, field_type};
+ghost use Rattle.cel_check.specs.private.Scopes.{scope_view};
 ghost use Rattle.proto_wire.specs.Refusal.{MemoryOr};
 ghost use Rattle.proto_wire.specs.declared.refusal.Refusal.TheVariants.{NoOverload};
 

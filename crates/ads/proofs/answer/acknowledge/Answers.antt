@@ -2,8 +2,8 @@ use Rattle.std.proofs.Common.{◌≡◌, ◌∙◌, sym, inr, inl, length}
 use Rattle.std.specs.Prelude.{vec_len}
 use Rattle.xds_wire.specs.View.{response_view}
 use Rattle.ads.specs.Answer.{ack_of}
-use Rattle.ads.specs.steps.Drafts.{draft_view}
-use Rattle.ads.specs.steps.Taking.{IsJudged}
+use Rattle.ads.specs.private.Drafts.{draft_view}
+use Rattle.ads.specs.private.Taking.{IsJudged}
 use Rattle.ads.specs.declared.judging.Judged.TheVariants as judged
 use Rattle.ads.proofs.AnswerLemmas.{given_length}
 use Rattle.ads.proofs.JudgementLemmas.{accepted_as}

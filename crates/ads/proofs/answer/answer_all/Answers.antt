@@ -1,6 +1,6 @@
 use Rattle.std.proofs.Common.{sym, ap, ◌∙◌}
 use Rattle.xds_wire.specs.Stream.{Kept}
-use Rattle.ads.specs.steps.Drafts.{draft_view}
+use Rattle.ads.specs.private.Drafts.{draft_view}
 use Rattle.ads.proofs.AnswerLemmas.{goes_on_more, goes_on_end, goes_on_stop, told_none, told_some}
 use Rattle.ads.proofs.answer.answer_all.Goals as goal
 

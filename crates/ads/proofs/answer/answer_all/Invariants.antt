@@ -1,6 +1,6 @@
 use Rattle.std.proofs.Common.{◌≡◌, length, List, Option}
 use Rattle.ads.specs.Answer.{AdmittedValue}
-use Rattle.ads.specs.steps.Drafts.{Covers, draft_view}
+use Rattle.ads.specs.private.Drafts.{Covers, draft_view}
 use Rattle.ads.proofs.AnswerLemmas.{GoesOn}
 use Rattle.ads.proofs.answer.answer_all.Given as goal
 

@@ -1,7 +1,7 @@
 use Rattle.std.proofs.Common.{refl}
 use Rattle.xds_wire.specs.View.{response_view}
 use Rattle.ads.specs.Answer.{nack_of}
-use Rattle.ads.specs.steps.Drafts.{draft_view}
+use Rattle.ads.specs.private.Drafts.{draft_view}
 use Rattle.ads.proofs.JudgementLemmas.{refused_as}
 use Rattle.ads.proofs.answer.refuse.Goals as goal
 

@@ -1,7 +1,7 @@
 use Rattle.std.proofs.Common.{inl, refl}
 use Rattle.xds_wire.specs.View.{any_view, extension_view}
 use Rattle.ads.specs.Answer.{IsResource}
-use Rattle.ads.specs.steps.Taking.{ReadFault}
+use Rattle.ads.specs.private.Taking.{ReadFault}
 use Rattle.ads.proofs.Lists.{exit_first, zip_more}
 use Rattle.ads.proofs.judging.read_resources.Goals as goal
 

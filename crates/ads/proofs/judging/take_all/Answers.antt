@@ -2,7 +2,7 @@ use Rattle.std.proofs.Common.{map, ◌∙◌}
 use Rattle.std.proofs.lemmas.Result.{err_from_is_err_and}
 use Rattle.xds_wire.specs.View.{extension_view}
 use Rattle.ads.specs.Answer.{RefusesNothing}
-use Rattle.ads.specs.steps.Taking.{filter_of}
+use Rattle.ads.specs.private.Taking.{filter_of}
 use Rattle.ads.proofs.TakingLemmas.{first_here, refuses_here, refuses_nothing, take_more}
 use Rattle.ads.proofs.judging.take_all.Goals as goal
 

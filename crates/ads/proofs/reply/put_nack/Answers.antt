@@ -2,7 +2,7 @@ use Rattle.std.proofs.Common.{◌≡◌, subst}
 use Rattle.std.specs.Prelude.{OnOk}
 use Rattle.xds_wire.specs.View.{request_view, status_view}
 use Rattle.ads.specs.Answer.{status_of}
-use Rattle.ads.specs.steps.Drafts.{AddsFrame}
+use Rattle.ads.specs.private.Drafts.{AddsFrame}
 use Rattle.ads.proofs.AnswerLemmas.{with_error}
 use Rattle.ads.proofs.reply.put_nack.Goals as goal
 

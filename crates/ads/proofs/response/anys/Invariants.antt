@@ -1,6 +1,6 @@
 use Rattle.std.proofs.Common.{◌≡◌, map, take}
 use Rattle.xds_wire.specs.View.{any_view}
-use Rattle.ads.specs.steps.Serving.{any_of}
+use Rattle.ads.specs.private.Serving.{any_of}
 use Rattle.ads.proofs.response.anys.Given as goal
 
 abbrev pub invariant-loop-value : goal.invariant-loop-value

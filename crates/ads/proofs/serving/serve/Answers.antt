@@ -2,7 +2,7 @@ use Rattle.std.proofs.Common.{refl}
 use Rattle.std.proofs.lemmas.Result.{IfOk-weaker}
 use Rattle.xds_wire.specs.Discovery.{IsRequest, RequestFault}
 use Rattle.xds_wire.specs.View.{request_view}
-use Rattle.ads.specs.steps.Serving.{a_request, no_request}
+use Rattle.ads.specs.private.Serving.{a_request, no_request}
 use Rattle.ads.proofs.AnswerLemmas.{read_fault, read_found}
 use Rattle.ads.proofs.serving.serve.Goals as goal
 

@@ -2,7 +2,7 @@ use Rattle.std.proofs.Common.{List, Option}
 use Rattle.ads.specs.Answer.{AdmittedValue}
 use Rattle.ads.specs.Views.{policies_view}
 use Rattle.ads.specs.Ends.{state_view}
-use Rattle.ads.specs.steps.Drafts.{draft_view}
+use Rattle.ads.specs.private.Drafts.{draft_view}
 use Rattle.ads.proofs.AnswerLemmas.{from_judged}
 use Rattle.ads.proofs.StreamLemmas.{fed_cut, kept_so}
 use Rattle.ads.proofs.stream.answered.Goals as goal

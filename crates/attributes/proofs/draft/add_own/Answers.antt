@@ -1,7 +1,7 @@
 -- The text has the names of the pseudo-headers, and their values.
 use Rattle.std.proofs.Common.{◌≡◌, ◌∙◌, List, [], ◌∷◌, ◌++◌, ap}
 use Rattle.attributes.specs.declared.headers.Field.{Field}
-use Rattle.attributes.specs.steps.Drafts.{own_names}
+use Rattle.attributes.specs.private.Drafts.{own_names}
 use Rattle.attributes.proofs.Drafts.{method_at, own_fields, own_fields_are, path_at, scheme_at}
 use Rattle.attributes.proofs.Parts.{begins_trans}
 use Rattle.attributes.proofs.draft.add_own.Goals as goal

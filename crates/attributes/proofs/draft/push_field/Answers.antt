@@ -1,5 +1,5 @@
 -- The field has this name, and the value that was appended.
-use Rattle.attributes.specs.steps.Parts.{part_of}
+use Rattle.attributes.specs.private.Parts.{part_of}
 use Rattle.attributes.proofs.Drafts.{at_kept, is_field_at}
 use Rattle.attributes.proofs.Parts.{is_part_kept}
 use Rattle.attributes.proofs.draft.push_field.Goals as goal

@@ -3,7 +3,7 @@ use Rattle.std.proofs.Common.{◌≡◌, ◌∷◌, [], sym, arith}
 use Rattle.std.proofs.lemmas.Grind.{common_steps}
 use Rattle.std.proofs.lemmas.List.{nil_from_length}
 use Rattle.std.proofs.lemmas.List.Elements.{All-head, All-tail}
-use Rattle.attributes.specs.steps.Parts.{IsField}
+use Rattle.attributes.specs.private.Parts.{IsField}
 use Rattle.attributes.proofs.Neighbours.{headers_nil}
 use Rattle.attributes.proofs.headers.are_distinct.Goals as goal
 

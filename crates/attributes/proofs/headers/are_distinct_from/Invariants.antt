@@ -1,5 +1,5 @@
 use Rattle.std.proofs.Common.{◌≡◌, ◌∷◌, get_or}
-use Rattle.attributes.specs.steps.Parts.{IsField}
+use Rattle.attributes.specs.private.Parts.{IsField}
 use Rattle.attributes.proofs.Distinct.{AreJoinedTo}
 use Rattle.attributes.proofs.headers.are_distinct_from.Given as goal
 

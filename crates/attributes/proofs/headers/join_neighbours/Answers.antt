@@ -3,7 +3,7 @@ use Rattle.std.proofs.Common.{◌≡◌, ◌∙◌, [], ◌∷◌, arith, sym}
 use Rattle.std.proofs.lemmas.List.{map-append, nil_from_length}
 use Rattle.std.proofs.lemmas.Grind.{common_steps}
 use Rattle.std.proofs.lemmas.List.Elements.{All-head, All-push, All-tail}
-use Rattle.attributes.specs.steps.Parts.{IsField, entry_in}
+use Rattle.attributes.specs.private.Parts.{IsField, entry_in}
 use Rattle.attributes.proofs.Neighbours.{headers_nil, headers_one}
 use Rattle.attributes.proofs.headers.join_neighbours.Goals as goal
 

@@ -1,7 +1,7 @@
 -- The field is joined to the last one, or follows it.
 use Rattle.std.proofs.Common.{◌≡◌, ◌∙◌, false, refl, sym}
 use Rattle.std.specs.Str.{bytes_eq}
-use Rattle.attributes.specs.steps.Parts.{part_of}
+use Rattle.attributes.specs.private.Parts.{part_of}
 use Rattle.attributes.proofs.JoinSteps.{joined_entries, joined_field, joined_name, next_entries}
 use Rattle.attributes.proofs.Parts.{are_fields_kept}
 use Rattle.attributes.proofs.TextOrder.{same_from_test}

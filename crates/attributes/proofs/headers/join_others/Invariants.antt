@@ -1,7 +1,7 @@
 use Rattle.std.proofs.Common.{◌≡◌, ◌∷◌, ◌++◌, List, get_or, take}
 use Rattle.std.specs.FinMap.{entries}
 use Rattle.attributes.specs.Headers.{Entry, headers_of}
-use Rattle.attributes.specs.steps.Parts.{AreFields, Begins, IsField, entries_in, part_of}
+use Rattle.attributes.specs.private.Parts.{AreFields, Begins, IsField, entries_in, part_of}
 use Rattle.attributes.proofs.JoinSteps.{with_last}
 use Rattle.attributes.proofs.headers.join_others.Given as goal
 

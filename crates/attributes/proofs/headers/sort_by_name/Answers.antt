@@ -1,7 +1,7 @@
 -- The closure compares by name, so the sort is a stable one by name.
 use Rattle.std.proofs.Common.{rules}
 use Rattle.std.proofs.lemmas.List.Sorted.{All-permutation}
-use Rattle.attributes.specs.steps.Parts.{IsField, entry_in}
+use Rattle.attributes.specs.private.Parts.{IsField, entry_in}
 use Rattle.attributes.proofs.Sorting.{are_sorted_from_clause, values_of_from_clause}
 use Rattle.attributes.proofs.headers.sort_by_name.Goals as goal
 

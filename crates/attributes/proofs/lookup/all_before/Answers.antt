@@ -1,6 +1,6 @@
 -- The last of the headers before the place is before the name, so all are.
 use Rattle.std.proofs.Common.{◌-◌, ◌∙◌, sym, arith}
-use Rattle.attributes.specs.steps.Parts.{entry_in}
+use Rattle.attributes.specs.private.Parts.{entry_in}
 use Rattle.attributes.proofs.Gaps.{all_before_place}
 use Rattle.attributes.proofs.TextOrder.{less_from_test, t_from_true}
 use Rattle.attributes.proofs.lookup.all_before.Goals as goal

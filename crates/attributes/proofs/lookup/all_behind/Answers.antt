@@ -1,6 +1,6 @@
 -- The first of the headers from the place on is after the name, so all are.
 use Rattle.std.proofs.Common.{◌∙◌, sym, arith}
-use Rattle.attributes.specs.steps.Parts.{entry_in}
+use Rattle.attributes.specs.private.Parts.{entry_in}
 use Rattle.attributes.proofs.Gaps.{all_behind_place, greater_from_test}
 use Rattle.attributes.proofs.TextOrder.{t_from_true}
 use Rattle.attributes.proofs.lookup.all_behind.Goals as goal

@@ -1,6 +1,6 @@
 -- The closure compares with the name, so the search is one by name.
 use Rattle.std.proofs.Common.{rules}
-use Rattle.attributes.specs.steps.Parts.{entry_in}
+use Rattle.attributes.specs.private.Parts.{entry_in}
 use Rattle.attributes.proofs.Searching.{is_place_searched}
 use Rattle.attributes.proofs.lookup.find_place.Goals as goal
 

@@ -1,5 +1,5 @@
 -- A name between two neighbours is not there.
-use Rattle.attributes.specs.steps.Parts.{entry_in}
+use Rattle.attributes.specs.private.Parts.{entry_in}
 use Rattle.attributes.proofs.Gaps.{absent_between}
 use Rattle.attributes.proofs.lookup.is_gap.Goals as goal
 

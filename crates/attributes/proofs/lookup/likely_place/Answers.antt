@@ -1,6 +1,6 @@
 -- A header that has the name is at the place of the name.
 use Rattle.std.proofs.Common.{◌∙◌, sym}
-use Rattle.attributes.specs.steps.Parts.{entry_in}
+use Rattle.attributes.specs.private.Parts.{entry_in}
 use Rattle.attributes.proofs.Searching.{is_place_at}
 use Rattle.attributes.proofs.TextOrder.{same_from_test}
 use Rattle.attributes.proofs.lookup.likely_place.Goals as goal

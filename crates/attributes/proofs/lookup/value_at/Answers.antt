@@ -1,6 +1,6 @@
 -- A header that has the name is the one that is looked for.
 use Rattle.std.proofs.Common.{Some, sym, ap, ◌∙◌}
-use Rattle.attributes.specs.steps.Parts.{entry_in}
+use Rattle.attributes.specs.private.Parts.{entry_in}
 use Rattle.attributes.proofs.Searching.{found_at}
 use Rattle.attributes.proofs.TextOrder.{same_from_test}
 use Rattle.attributes.proofs.lookup.value_at.Goals as goal

@@ -1,7 +1,7 @@
 -- The first value ends the text, and a comma and the second are appended.
 use Rattle.std.proofs.Common.{◌≡◌, ◌≤◌, ◌++◌, ◌∷◌, ◌∙◌, [], ℕ, List, length, ap, arith, length-append}
 use Rattle.std.proofs.lemmas.Grind.{common_steps}
-use Rattle.attributes.specs.steps.Parts.{part_of}
+use Rattle.attributes.specs.private.Parts.{part_of}
 use Rattle.attributes.proofs.Parts.{at_end, begins_more, joined_end, joined_utf8, part_kept}
 use Rattle.attributes.proofs.part.join_values.Goals as goal
 

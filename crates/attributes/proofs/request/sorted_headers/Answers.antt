@@ -2,7 +2,7 @@
 use Rattle.std.proofs.Common.{◌≡◌, ◌∙◌, ℕ, List, ap}
 use Rattle.std.specs.FinMap.{entries}
 use Rattle.attributes.specs.Headers.{headers_of, values_of}
-use Rattle.attributes.specs.steps.Parts.{entries_in}
+use Rattle.attributes.specs.private.Parts.{entries_in}
 use Rattle.attributes.proofs.HeaderMaps.{is_sorted_entries}
 use Rattle.attributes.proofs.Joining.{headers_of_same}
 use Rattle.attributes.proofs.Requests.{text_fields}

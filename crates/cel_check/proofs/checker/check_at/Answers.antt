@@ -8,7 +8,7 @@ use Rattle.cel_tree.proofs.PlacedExits.{drop_place}
 use Rattle.cel_types.specs.TypingFaults.{CheckFault, untyped}
 use Rattle.cel_check.specs.Places.{TypeFaultAt}
 use Rattle.cel_check.proofs.PlaceLaws.{type_fails}
-use Rattle.cel_check.specs.steps.Checks.{IsFound}
+use Rattle.cel_check.specs.private.Checks.{IsFound}
 use Rattle.cel_check.proofs.CheckSteps.{view_empty}
 use Rattle.cel_check.proofs.Checking.{types_of}
 use Rattle.cel_check.proofs.checker.check_at.Goals as goal

@@ -8,13 +8,13 @@ use Rattle.cel_overload.specs.declared.overload.Overload.TheVariants as overload
 use Rattle.cel_types.specs.Elaborated.{no_typed, typed, typed_attribute, typed_call, typed_constant, typed_field, typed_has, typed_list, typed_local, typed_map}
 use Rattle.cel_types.specs.Names.{variable_count}
 use Rattle.cel_types.specs.View.{expr_view, loop_of}
-use Rattle.cel_types.specs.steps.ExprViews.{exprs_view, parts_view}
+use Rattle.cel_types.specs.private.ExprViews.{exprs_view, parts_view}
 use Rattle.cel_types.specs.declared.typed.TypedExpr as exprs
 use Rattle.machine_code.specs.declared.instr.Instr.TheVariants as instrs
 use Rattle.cel_compile.specs.declared.lengths.Lengths.{Lengths}
-use Rattle.cel_compile.specs.steps.Extents.{extent}
-use Rattle.cel_compile.specs.steps.Emitting.{Grows, GrowsAll, HasRoom}
-use Rattle.cel_compile.specs.steps.Lengths.{lengths_are, lengths_of}
+use Rattle.cel_compile.specs.private.Extents.{extent}
+use Rattle.cel_compile.specs.private.Emitting.{Grows, GrowsAll, HasRoom}
+use Rattle.cel_compile.specs.private.Lengths.{lengths_are, lengths_of}
 use Rattle.cel_compile.proofs.Built.{choice_built, choice_first, choice_jump, choice_room, choice_second, choice_test, choice_third, junction_built, junction_first, junction_last, junction_put, junction_room, junction_second, loop_room, next, one, takes_of, then}
 use Rattle.cel_compile.proofs.BuiltLoops.{back_room, condition_room, init_room, loop_built, range_room, result_room, step_room}
 use Rattle.cel_compile.proofs.Operands.{all_emitted, begins_on, few_elements, goes_on, list_room, map_room, next_room, plain_grows, plain_put, plain_room, three_operands, two_operands}

@@ -1,7 +1,7 @@
 use Rattle.std.proofs.Common.{◌≡◌, ◌↔◌, get_or, rules}
 use Rattle.std.specs.Prelude.{IsTrue}
 use Rattle.cel_types.specs.View.{expr_view, loop_of}
-use Rattle.cel_types.specs.steps.ExprViews.{parts_view}
+use Rattle.cel_types.specs.private.ExprViews.{parts_view}
 use Rattle.cel_types.specs.declared.typed.TypedExpr as exprs
 use Rattle.cel_value.specs.Types.{type_view}
 use Rattle.cel_compile.specs.Slots.{HasFewLocals}

@@ -1,5 +1,5 @@
 use Rattle.std.proofs.Common.{◌↔◌, drop}
-use Rattle.cel_types.specs.steps.ExprViews.{exprs_view}
+use Rattle.cel_types.specs.private.ExprViews.{exprs_view}
 use Rattle.cel_compile.specs.Slots.{HaveFewLocals}
 use Rattle.cel_compile.proofs.few_locals.+few_locals.Given as goal
 

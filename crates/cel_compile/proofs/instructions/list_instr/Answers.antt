@@ -2,7 +2,7 @@ use Rattle.std.proofs.Common.{◌<◌, length, sym, ap, ◌∙◌, arith}
 use Rattle.std.proofs.lemmas.Grind.{common_steps}
 use Rattle.cel_value.specs.Types.{type_view}
 use Rattle.cel_value.proofs.Views.{no_list}
-use Rattle.cel_types.specs.steps.ExprViews.{exprs_view}
+use Rattle.cel_types.specs.private.ExprViews.{exprs_view}
 use Rattle.machine_code.specs.Instructions.{MakeList}
 use Rattle.cel_compile.proofs.Operands.{count_of, made_list, other_list}
 use Rattle.cel_compile.proofs.instructions.list_instr.Goals.{in_default-via-in-List+else-is_empty, in_default-via-in_default}

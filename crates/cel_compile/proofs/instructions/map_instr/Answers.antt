@@ -2,7 +2,7 @@ use Rattle.std.proofs.Common.{◌<◌, length, sym, ap, ◌∙◌, arith}
 use Rattle.std.proofs.lemmas.Grind.{common_steps}
 use Rattle.cel_value.specs.Types.{type_view}
 use Rattle.cel_value.proofs.Views.{no_map}
-use Rattle.cel_types.specs.steps.ExprViews.{exprs_view}
+use Rattle.cel_types.specs.private.ExprViews.{exprs_view}
 use Rattle.machine_code.specs.Instructions.{MakeMap}
 use Rattle.cel_compile.proofs.Operands.{made_map, other_map, pairs_of}
 use Rattle.cel_compile.proofs.instructions.map_instr.Goals.{in_default-via-in-Map+else-is_empty, in_default-via-in_default}

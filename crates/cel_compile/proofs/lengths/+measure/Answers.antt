@@ -4,9 +4,9 @@ use Rattle.cel_value.specs.Texts.{text_view}
 use Rattle.cel_value.specs.Types.{type_view}
 use Rattle.cel_types.specs.Elaborated.{no_typed, typed, typed_field, typed_has, typed_list, typed_map}
 use Rattle.cel_types.specs.View.{expr_view, loop_of}
-use Rattle.cel_types.specs.steps.ExprViews.{exprs_view, parts_view}
+use Rattle.cel_types.specs.private.ExprViews.{exprs_view, parts_view}
 use Rattle.cel_types.specs.declared.typed.TypedExpr as exprs
-use Rattle.cel_compile.specs.steps.Lengths.{Measures, MeasuresAll}
+use Rattle.cel_compile.specs.private.Lengths.{Measures, MeasuresAll}
 use Rattle.cel_compile.proofs.Measured.{all_measured, choice_measured, counts_as, junction_measured, loop_measured, measures_on, none_measured, one_more, own, plain_measured}
 use Rattle.cel_compile.proofs.Operands.{three_operands, two_operands}
 use Rattle.cel_compile.proofs.lengths.+measure.Goals as goal

@@ -1,6 +1,6 @@
 use Rattle.std.proofs.Common.{◌-◌, drop, length}
-use Rattle.cel_types.specs.steps.ExprViews.{exprs_view}
-use Rattle.cel_compile.specs.steps.Lengths.{MeasuresAll}
+use Rattle.cel_types.specs.private.ExprViews.{exprs_view}
+use Rattle.cel_compile.specs.private.Lengths.{MeasuresAll}
 use Rattle.cel_compile.proofs.lengths.+measure.Given as goal
 
 abbrev pub invariant-measure_all-loop-measured : goal.invariant-measure_all-loop-measured

@@ -1,7 +1,7 @@
 use Rattle.std.proofs.Common.{◌≡◌, ◌++◌, drop, map}
 use Rattle.cel_value.specs.View.{values_view}
 use Rattle.cel_ops.specs.Collections.{numbered}
-use Rattle.cel_meaning.specs.steps.Plain.{keyed_turns, turn_view}
+use Rattle.cel_meaning.specs.private.Plain.{keyed_turns, turn_view}
 use Rattle.cel_meaning.proofs.elements.item_turns.Given as goal
 
 -- the turns made, with those of what is left, are all

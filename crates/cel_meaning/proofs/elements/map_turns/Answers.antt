@@ -2,7 +2,7 @@ use Rattle.std.proofs.Common.{ap, ◌∙◌}
 use Rattle.std.proofs.lemmas.Result.{IfOk-weaker}
 use Rattle.cel_ops.specs.Collections.{keyed}
 use Rattle.cel_value.proofs.Views.{seen_entries}
-use Rattle.cel_meaning.specs.steps.Plain.{keyed_turns}
+use Rattle.cel_meaning.specs.private.Plain.{keyed_turns}
 use Rattle.cel_meaning.proofs.elements.map_turns.Goals as goal
 
 pub returns-in-Entries : goal.returns-in-Entries

@@ -1,6 +1,6 @@
 use Rattle.std.proofs.Common.{◌≡◌, take}
 use Rattle.cel_meaning.specs.Places.{around, locals_view}
-use Rattle.cel_meaning.specs.steps.Plain.{known_view}
+use Rattle.cel_meaning.specs.private.Plain.{known_view}
 use Rattle.cel_meaning.proofs.known.bare_locals.Given as goal
 
 -- the first of the locals, as placed ones

@@ -1,7 +1,7 @@
 use Rattle.std.proofs.Common.{◌≡◌, drop}
 use Rattle.cel_value.specs.Texts.{text_view}
 use Rattle.cel_types.specs.Names.{local}
-use Rattle.cel_meaning.specs.steps.Plain.{known_view}
+use Rattle.cel_meaning.specs.private.Plain.{known_view}
 use Rattle.cel_meaning.proofs.known.find.Given as goal
 
 -- the innermost local of the name is that of the locals that are left

@@ -1,7 +1,7 @@
 use Rattle.std.proofs.Common.{◌≡◌, ◌∷◌, take}
 use Rattle.cel_value.specs.Texts.{text_view}
 use Rattle.cel_meaning.specs.Places.{placed_view}
-use Rattle.cel_meaning.specs.steps.Plain.{known_view}
+use Rattle.cel_meaning.specs.private.Plain.{known_view}
 use Rattle.cel_meaning.proofs.known.with_local.Given as goal
 
 -- behind the new one stand the first of the others

@@ -4,13 +4,13 @@ use Rattle.cel_ops.specs.Collections as collections
 use Rattle.cel_overload.specs.Functions.{function_named}
 use Rattle.cel_tree.specs.Tree.{map_literal}
 use Rattle.cel_tree.specs.View.{target_of, tree_view}
-use Rattle.cel_tree.specs.steps.TreeViews.{boxed_view, tree_entries_view, trees_view}
+use Rattle.cel_tree.specs.private.TreeViews.{boxed_view, tree_entries_view, trees_view}
 use Rattle.cel_value.specs.Texts.{text_view}
 use Rattle.cel_types.specs.Meaning.{call_answer}
 use Rattle.cel_types.proofs.TreeViews.{tree_call, tree_comprehension, tree_map}
 use Rattle.cel_meaning.specs.Origin.{call_place, first_place, placed, placed_before, placed_each, placed_entries, placed_target, settled}
 use Rattle.cel_meaning.specs.Places.{placed_view}
-use Rattle.cel_meaning.specs.steps.Plain.{around_view, behind}
+use Rattle.cel_meaning.specs.private.Plain.{around_view, behind}
 use Rattle.cel_meaning.proofs.PlainSteps.{called, next_entry, target_before, target_none, two_more}
 use Rattle.cel_meaning.proofs.nodes.+eval.Goals as goal
 

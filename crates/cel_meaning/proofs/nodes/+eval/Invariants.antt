@@ -1,8 +1,8 @@
 use Rattle.std.proofs.Common.{◌≡◌, drop, map}
-use Rattle.cel_tree.specs.steps.TreeViews.{loop_view, tree_entries_view, trees_view}
+use Rattle.cel_tree.specs.private.TreeViews.{loop_view, tree_entries_view, trees_view}
 use Rattle.cel_meaning.specs.Origin.{placed_each, placed_entries}
 use Rattle.cel_meaning.specs.Places.{placed_view}
-use Rattle.cel_meaning.specs.steps.Plain.{around_view, behind, turn_view, turns}
+use Rattle.cel_meaning.specs.private.Plain.{around_view, behind, turn_view, turns}
 use Rattle.cel_meaning.proofs.nodes.+eval.Given as goal
 
 -- the answers so far, with those of the trees that are left, are all

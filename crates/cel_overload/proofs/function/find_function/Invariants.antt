@@ -1,6 +1,6 @@
 use Rattle.std.proofs.Common.{◌≡◌, drop}
 use Rattle.cel_overload.specs.Functions.{function_at}
-use Rattle.cel_overload.specs.steps.View.{names_view}
+use Rattle.cel_overload.specs.private.View.{names_view}
 use Rattle.cel_overload.proofs.function.find_function.Given as goal
 
 -- the function is that of the entries that are left

@@ -1,6 +1,6 @@
 use Rattle.std.proofs.Common.{◌∙◌, sym, ap, option_map}
 use Rattle.cel_overload.specs.View.{types_of}
-use Rattle.cel_overload.specs.steps.View.{found_view}
+use Rattle.cel_overload.specs.private.View.{found_view}
 use Rattle.cel_overload.proofs.Choosing.{chosen_fits}
 use Rattle.cel_overload.proofs.OneOverload.{unchosen}
 use Rattle.cel_overload.proofs.overload.find_overload.Goals as goal

@@ -1,7 +1,7 @@
 use Rattle.std.proofs.Common.{List, map}
 use Rattle.proto_wire.specs.Fields.{Wire, field_view}
 use Rattle.cel_tree.specs.Nodes.{EntryLacks, EntryWrong}
-use Rattle.cel_tree.specs.steps.Values.{ValuesFault}
+use Rattle.cel_tree.specs.private.Values.{ValuesFault}
 use Rattle.cel_read.proofs.Entries.{key_bad}
 use Rattle.cel_tree.proofs.Readers.{exit_fault}
 use Rattle.cel_read.proofs.literals.entry_of.Goals as goal

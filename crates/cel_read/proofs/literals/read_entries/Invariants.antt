@@ -1,7 +1,7 @@
 use Rattle.std.proofs.Common.{take}
 use Rattle.proto_wire.specs.Merge.{parts_view}
 use Rattle.cel_tree.specs.Nodes.{AreEntries}
-use Rattle.cel_read.specs.steps.EntryViews.{entry_nodes_view}
+use Rattle.cel_read.specs.private.EntryViews.{entry_nodes_view}
 use Rattle.cel_read.proofs.literals.read_entries.Given as goal
 
 abbrev pub invariant-loop-payload : goal.invariant-loop-payload

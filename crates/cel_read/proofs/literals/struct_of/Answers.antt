@@ -4,7 +4,7 @@ use Rattle.proto_wire.specs.Fields.{Wire, field_view}
 use Rattle.proto_wire.specs.Values.{payloads}
 use Rattle.cel_tree.specs.Nodes.{MapEntryFault, struct_field, StructWrong, in_entry}
 use Rattle.cel_tree.specs.Reading.{LacksNothing}
-use Rattle.cel_tree.specs.steps.Values.{ValuesFault}
+use Rattle.cel_tree.specs.private.Values.{ValuesFault}
 use Rattle.cel_tree.proofs.Readers.{exit_memory_or}
 use Rattle.cel_read.proofs.literals.struct_of.Goals as goal
 

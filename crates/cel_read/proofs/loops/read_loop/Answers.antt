@@ -3,7 +3,7 @@ use Rattle.proto_wire.specs.Fields.{Wire, field_view}
 use Rattle.proto_wire.specs.Merge.{parts_view}
 use Rattle.proto_wire.specs.Messages.{IsMessage}
 use Rattle.cel_tree.specs.Nodes.{loop_keys, LoopSays, LoopLacks, LoopWrong}
-use Rattle.cel_read.specs.steps.NodeViews.{node_view}
+use Rattle.cel_read.specs.private.NodeViews.{node_view}
 use Rattle.cel_tree.proofs.Readers.{read_fault, read_found}
 use Rattle.cel_read.proofs.loops.read_loop.Goals as goal
 

@@ -2,7 +2,7 @@ use Rattle.std.proofs.Common.{◌≡◌, w64, to_z, of_z, to_z-of_z, ◌∙◌, 
 use Rattle.proto_wire.specs.Merge.{parts_view}
 use Rattle.cel_tree.specs.References.{IsReference, ReferenceFault}
 use Rattle.cel_tree.specs.View.{reference_view, references_view}
-use Rattle.cel_read.specs.steps.Named.{ids_view}
+use Rattle.cel_read.specs.private.Named.{ids_view}
 use Rattle.cel_read.proofs.NamedMaps.{no_values, found_next, some_next}
 use Rattle.cel_tree.specs.Places.{NamesEntry}
 use Rattle.cel_tree.proofs.PlacedExits.{entry_fault, entry_found, exit_placed}

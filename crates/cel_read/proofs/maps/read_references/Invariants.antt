@@ -1,7 +1,7 @@
 use Rattle.std.proofs.Common.{take}
 use Rattle.cel_tree.specs.References.{IsReference}
 use Rattle.cel_tree.specs.View.{references_view}
-use Rattle.cel_read.specs.steps.Named.{SomeValues, ids_view}
+use Rattle.cel_read.specs.private.Named.{SomeValues, ids_view}
 use Rattle.cel_read.proofs.maps.read_references.Given as goal
 
 abbrev pub invariant-loop-entry : goal.invariant-loop-entry

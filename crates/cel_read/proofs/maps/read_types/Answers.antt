@@ -3,7 +3,7 @@ use Rattle.proto_wire.specs.Merge.{parts_view}
 use Rattle.cel_tree.specs.Message.{tree_depth}
 use Rattle.cel_tree.specs.TypeEntries.{IsTypeEntry, TypeEntryFault}
 use Rattle.cel_tree.specs.View.{type_entry_view, types_view}
-use Rattle.cel_read.specs.steps.Named.{ids_view}
+use Rattle.cel_read.specs.private.Named.{ids_view}
 use Rattle.cel_read.proofs.NamedMaps.{no_values, found_next, some_next}
 use Rattle.cel_tree.specs.Places.{NamesEntry}
 use Rattle.cel_tree.proofs.PlacedExits.{entry_fault, entry_found, exit_placed}

@@ -10,7 +10,7 @@ use Rattle.proto_wire.proofs.MapLaws.{entries_readable}
 use Rattle.cel_tree.specs.Message.{tree_depth, checked_field}
 use Rattle.cel_tree.specs.TypeEntries.{IsTypeEntry, TypeEntryFault}
 use Rattle.cel_tree.specs.View.{types_view}
-use Rattle.cel_read.specs.steps.Named.{ids_view}
+use Rattle.cel_read.specs.private.Named.{ids_view}
 use Rattle.cel_read.proofs.NamedMaps.{all_values}
 use Rattle.cel_tree.proofs.PlacedExits.{exit_unplaced_or, last_placed}
 use Rattle.cel_read.specs.Places.{MapFaultAt, ValueFaultAt, of_payload, of_value}

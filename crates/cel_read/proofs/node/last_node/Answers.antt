@@ -6,7 +6,7 @@ use Rattle.proto_wire.specs.Oneof.{member_run}
 use Rattle.proto_wire.specs.Refusal.{MemoryOr}
 use Rattle.proto_wire.specs.Values.{payloads}
 use Rattle.cel_tree.specs.Nodes.{kind_keys, KindSays, KindFault}
-use Rattle.cel_read.specs.steps.NodeViews.{node_view}
+use Rattle.cel_read.specs.private.NodeViews.{node_view}
 use Rattle.cel_read.proofs.node.last_node.Goals as goal
 
 pub returns-clause-found : goal.returns-clause-found

@@ -11,12 +11,12 @@ use Rattle.cel_value.specs.Texts.{text_view}
 use Rattle.cel_tree.specs.Nodes.{Parts, call_node, children, entry_children, loop_children, singles}
 use Rattle.cel_tree.specs.Trees.{IsTree, node_count, trees_count, entries_count}
 use Rattle.cel_tree.specs.View.{tree_view}
-use Rattle.cel_tree.specs.steps.TreeViews.{trees_view, tree_entries_view}
-use Rattle.cel_read.specs.steps.EntryViews.{entry_nodes_view}
+use Rattle.cel_tree.specs.private.TreeViews.{trees_view, tree_entries_view}
+use Rattle.cel_read.specs.private.EntryViews.{entry_nodes_view}
 use Rattle.cel_tree.specs.Places.{PlacedOr}
 use Rattle.cel_read.specs.Places.{SomeFaultAt, TreeFaultAt}
-use Rattle.cel_read.specs.steps.Inside.{AreTwoTrees, Inside, IsLoopBody, loop_body}
-use Rattle.cel_read.specs.steps.NodeViews.{node_view, loop_node_view}
+use Rattle.cel_read.specs.private.Inside.{AreTwoTrees, Inside, IsLoopBody, loop_body}
+use Rattle.cel_read.specs.private.NodeViews.{node_view, loop_node_view}
 use Rattle.cel_read.proofs.Insides.{same_id, inside_constant, inside_ident, inside_select, inside_call, inside_map, inside_loop, own_at, tree_found, inside_at, trees_at, past_two, trees_push, entries_at, entry_trees_push, trees_push_count, entries_push_count}
 use Rattle.cel_tree.proofs.PairFacts.{both_found, both_fault}
 use Rattle.cel_tree.proofs.PlacedExits.{exit_placed, last_placed}

@@ -2,9 +2,9 @@ use Rattle.std.proofs.Common.{◌≡◌, ◌+◌, ◌*◌, take}
 use Rattle.proto_wire.specs.Merge.{parts_view}
 use Rattle.cel_tree.specs.Nodes.{singles}
 use Rattle.cel_tree.specs.Trees.{IsTree, AreTrees, trees_count}
-use Rattle.cel_tree.specs.steps.TreeViews.{trees_view, tree_entries_view}
-use Rattle.cel_read.specs.steps.EntryViews.{entry_nodes_view}
-use Rattle.cel_read.specs.steps.Inside.{AreEntryTrees}
+use Rattle.cel_tree.specs.private.TreeViews.{trees_view, tree_entries_view}
+use Rattle.cel_read.specs.private.EntryViews.{entry_nodes_view}
+use Rattle.cel_read.specs.private.Inside.{AreEntryTrees}
 use Rattle.cel_read.proofs.read.+read.Given as goal
 
 abbrev pub decreases-read_tree : goal.decreases-read_tree

@@ -3,7 +3,7 @@ use Rattle.std.specs.Prelude.{Contains}
 use Rattle.proto_wire.specs.Fields.{Wire, field_view}
 use Rattle.proto_wire.specs.Values.{payloads, Utf8Fault}
 use Rattle.cel_tree.specs.Reading.{LacksNothing}
-use Rattle.cel_tree.specs.steps.Values.{ValuesFault}
+use Rattle.cel_tree.specs.private.Values.{ValuesFault}
 use Rattle.cel_tree.specs.References.{ReferenceWrong, bad_id, reference_field}
 use Rattle.cel_tree.proofs.Readers.{exit_memory_or}
 use Rattle.cel_read.proofs.reference.reference_of.Goals as goal

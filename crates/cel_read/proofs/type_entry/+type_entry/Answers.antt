@@ -3,8 +3,8 @@ use Rattle.std.proofs.lemmas.Result.{MatchResult-weaker}
 use Rattle.proto_wire.specs.Merge.{parts_view}
 use Rattle.cel_tree.specs.TypeEntries.{TypeNodeFault, TypeEntryFault}
 use Rattle.cel_tree.specs.View.{type_entry_view}
-use Rattle.cel_read.specs.steps.InnerTypes.{HoldsFault}
-use Rattle.cel_read.specs.steps.NodeViews.{type_node_view}
+use Rattle.cel_read.specs.private.InnerTypes.{HoldsFault}
+use Rattle.cel_read.specs.private.NodeViews.{type_node_view}
 use Rattle.cel_tree.proofs.Readers.{exit_memory_or, last_memory_or}
 use Rattle.cel_read.proofs.TypeLevels.{type_found, type_own, type_inner}
 use Rattle.cel_read.proofs.type_entry.+type_entry.Goals as goal

@@ -1,5 +1,5 @@
 use Rattle.std.proofs.Common.{◌-◌, ◌≤◌, take, drop, length}
-use Rattle.cel_tree.specs.steps.Places.{AllAbove, AllBelow}
+use Rattle.cel_tree.specs.private.Places.{AllAbove, AllBelow}
 use Rattle.cel_tree.proofs.id_map.find_in.Given as goal
 
 abbrev pub invariant-loop-low : goal.invariant-loop-low

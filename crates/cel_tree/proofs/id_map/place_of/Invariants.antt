@@ -1,5 +1,5 @@
 use Rattle.std.proofs.Common.{◌≤◌, drop, length}
-use Rattle.cel_tree.specs.steps.Places.{StartsAbove}
+use Rattle.cel_tree.specs.private.Places.{StartsAbove}
 use Rattle.cel_tree.proofs.id_map.place_of.Given as goal
 
 abbrev pub invariant-loop-at : goal.invariant-loop-at

@@ -1,5 +1,5 @@
-use Rattle.cel_value.specs.steps.EqualityLaws.{key_eq_decides, value_eq_decides}
-use Rattle.cel_value.specs.steps.EqualityLaws.{type_eq_decides}
+use Rattle.cel_value.specs.private.EqualityLaws.{key_eq_decides, value_eq_decides}
+use Rattle.cel_value.specs.private.EqualityLaws.{type_eq_decides}
 use Rattle.cel_value.proofs.laws.equality_is_exact.Goals as goal
 
 pub returns-clause-values : goal.returns-clause-values

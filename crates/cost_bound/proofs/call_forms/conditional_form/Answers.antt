@@ -2,11 +2,11 @@ use Rattle.std.proofs.Common.{List}
 use Rattle.attributes.specs.Limits.{LimitsValue}
 use Rattle.cel_overload.specs.declared.overload.Overload.TheVariants as overloads
 use Rattle.cel_types.specs.Elaborated.{TypedTree, no_typed, typed, typed_call}
-use Rattle.cel_types.specs.steps.ExprViews.{exprs_view}
+use Rattle.cel_types.specs.private.ExprViews.{exprs_view}
 use Rattle.cel_value.specs.Types.{ValueType}
 use Rattle.cel_costs.specs.Sizes.{Size}
 use Rattle.cost_bound.specs.declared.form.Form.{Form}
-use Rattle.cost_bound.specs.steps.Memos.{Forms, MemoHoldsEach, memo_view}
+use Rattle.cost_bound.specs.private.Memos.{Forms, MemoHoldsEach, memo_view}
 use Rattle.cost_bound.proofs.FormRules.{found_then}
 use Rattle.cost_bound.proofs.Surveys.{three_forms}
 use Rattle.cost_bound.proofs.call_forms.conditional_form.Goals as goal

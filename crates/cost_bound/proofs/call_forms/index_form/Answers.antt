@@ -1,4 +1,4 @@
-use Rattle.cost_bound.specs.steps.Formulas.{formula_view}
+use Rattle.cost_bound.specs.private.Formulas.{formula_view}
 use Rattle.cost_bound.proofs.FormRules.{index_form}
 use Rattle.cost_bound.proofs.call_forms.index_form.Goals as goal
 

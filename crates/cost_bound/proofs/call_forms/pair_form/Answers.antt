@@ -7,8 +7,8 @@ use Rattle.cel_value.specs.Types.{ValueType}
 use Rattle.cost_bound.specs.declared.form.Form.{Form}
 use Rattle.cost_bound.specs.declared.numbers.Gives.TheVariants as gives
 use Rattle.cost_bound.specs.declared.shape.Shape.{Flat as FlatShape}
-use Rattle.cost_bound.specs.steps.Formulas.{SameNumbers, both, formula_view, shape_view}
-use Rattle.cost_bound.specs.steps.Memos.{Forms}
+use Rattle.cost_bound.specs.private.Formulas.{SameNumbers, both, formula_view, shape_view}
+use Rattle.cost_bound.specs.private.Memos.{Forms}
 use Rattle.cost_bound.proofs.FormRules.{compare_form, found_then, test_form}
 use Rattle.cost_bound.proofs.Shapes.{view_flat}
 use Rattle.cost_bound.proofs.call_forms.pair_form.Goals as goal

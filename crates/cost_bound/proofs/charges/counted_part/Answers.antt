@@ -2,9 +2,9 @@ use Rattle.std.proofs.Common.{◌≡◌, ◌≤◌, length, refl, arith}
 use Rattle.cel_ops.specs.declared.operation.Operation.TheVariants as operations
 use Rattle.cel_overload.specs.declared.overload.Overload.TheVariants as overloads
 use Rattle.cel_types.specs.Elaborated.{kinds}
-use Rattle.cel_types.specs.steps.ExprViews.{exprs_view}
+use Rattle.cel_types.specs.private.ExprViews.{exprs_view}
 use Rattle.cel_costs.specs.Costs.{charge_at}
-use Rattle.cost_bound.specs.steps.SizeView.{sizes_view}
+use Rattle.cost_bound.specs.private.SizeView.{sizes_view}
 use Rattle.cost_bound.proofs.Counting.{as_many_kinds, no_count_kinds}
 use Rattle.cost_bound.proofs.charges.counted_part.Goals as goal
 

@@ -1,5 +1,5 @@
 use Rattle.std.proofs.Common.{ap, ◌∙◌}
-use Rattle.cost_bound.specs.steps.Numbers.{capped}
+use Rattle.cost_bound.specs.private.Numbers.{capped}
 use Rattle.cost_bound.proofs.Capped.{one_less}
 use Rattle.cost_bound.proofs.charges.operation_part.Goals as goal
 

@@ -1,5 +1,5 @@
 use Rattle.std.proofs.Common.{◌≡◌, [], ◌∷◌, refl, sym, ap, ◌∙◌}
-use Rattle.cost_bound.specs.steps.Formulas.{fixed, formula_view, joins, shape_view}
+use Rattle.cost_bound.specs.private.Formulas.{fixed, formula_view, joins, shape_view}
 use Rattle.cost_bound.specs.declared.shape.Shape.{Joined}
 use Rattle.cost_bound.proofs.Formulas.{view_fixed}
 use Rattle.cost_bound.proofs.Forms.{join_flat}

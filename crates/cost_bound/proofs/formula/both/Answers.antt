@@ -1,4 +1,4 @@
-use Rattle.cost_bound.specs.steps.Formulas.{both, formula_view}
+use Rattle.cost_bound.specs.private.Formulas.{both, formula_view}
 use Rattle.cost_bound.proofs.formula.both.Goals as goal
 
 pub returns-in-Some : goal.returns-in-Some

@@ -1,4 +1,4 @@
-use Rattle.cost_bound.specs.steps.Formulas.{either, formula_view}
+use Rattle.cost_bound.specs.private.Formulas.{either, formula_view}
 use Rattle.cost_bound.proofs.formula.either.Goals as goal
 
 pub returns-in-Some : goal.returns-in-Some

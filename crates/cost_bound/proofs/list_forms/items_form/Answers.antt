@@ -1,5 +1,5 @@
 use Rattle.std.proofs.Common.{◌≡◌, ◌+◌, ◌-◌, arith}
-use Rattle.cost_bound.specs.steps.Memos.{memo_view}
+use Rattle.cost_bound.specs.private.Memos.{memo_view}
 use Rattle.cost_bound.proofs.Surveys.{item_there}
 use Rattle.cost_bound.proofs.list_forms.items_form.Goals as goal
 

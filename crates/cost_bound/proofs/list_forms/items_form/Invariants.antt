@@ -1,9 +1,9 @@
 use Rattle.std.proofs.Common.{◌≤◌, List, drop, length}
 use Rattle.attributes.specs.Limits.{LimitsValue}
-use Rattle.cel_types.specs.steps.ExprViews.{exprs_view}
+use Rattle.cel_types.specs.private.ExprViews.{exprs_view}
 use Rattle.cel_costs.specs.Sizes.{Size}
-use Rattle.cost_bound.specs.steps.Formulas.{AreItems, formula_view, shape_view}
-use Rattle.cost_bound.specs.steps.Memos.{MemoHoldsEach, memo_view}
+use Rattle.cost_bound.specs.private.Formulas.{AreItems, formula_view, shape_view}
+use Rattle.cost_bound.specs.private.Memos.{MemoHoldsEach, memo_view}
 use Rattle.cost_bound.proofs.list_forms.items_form.Given as goal
 
 -- the form so far is that of the items from a place on

@@ -1,6 +1,6 @@
 use Rattle.std.proofs.Common.{◌≡◌, length, ap, ◌∙◌, arith}
 use Rattle.cost_bound.specs.declared.shape.Shape.{Items}
-use Rattle.cost_bound.specs.steps.Formulas.{fixed, formula_view, items, shape_view}
+use Rattle.cost_bound.specs.private.Formulas.{fixed, formula_view, items, shape_view}
 use Rattle.cost_bound.proofs.Formulas.{view_fixed}
 use Rattle.cost_bound.proofs.FormRules.{list_formed}
 use Rattle.cost_bound.proofs.Shapes.{view_items}

@@ -1,6 +1,6 @@
 use Rattle.std.proofs.Common.{◌≡◌, ◌+◌, refl, ◌∙◌}
 use Rattle.cel_costs.specs.Sizes.{most_of}
-use Rattle.cost_bound.specs.steps.SizeView.{size_view}
+use Rattle.cost_bound.specs.private.SizeView.{size_view}
 use Rattle.cost_bound.proofs.Capped.{capped_same}
 use Rattle.cost_bound.proofs.made.concat_size.Goals as goal
 

@@ -1,6 +1,6 @@
 use Rattle.std.proofs.Common.{◌≡◌, ◌≤◌, length, drop}
 use Rattle.cel_costs.specs.Costs.{join_all}
-use Rattle.cost_bound.specs.steps.SizeView.{size_view, sizes_view}
+use Rattle.cost_bound.specs.private.SizeView.{size_view, sizes_view}
 use Rattle.cost_bound.proofs.made.join_each.Given as goal
 
 abbrev pub invariant-loop-at : goal.invariant-loop-at

@@ -1,6 +1,6 @@
 use Rattle.std.proofs.Common.{◌≡◌, length, arith}
 use Rattle.std.proofs.lemmas.List.{length-map}
-use Rattle.cost_bound.specs.steps.SizeView.{size_view, sizes_view}
+use Rattle.cost_bound.specs.private.SizeView.{size_view, sizes_view}
 use Rattle.cost_bound.proofs.Turns.{key_count_fact}
 use Rattle.cost_bound.proofs.made.key_count.Goals as goal
 

@@ -1,7 +1,7 @@
 use Rattle.std.proofs.Common.{sym, ap, ◌∙◌, arith}
 use Rattle.cel_costs.specs.Costs.{keys_of, masses, values_of}
-use Rattle.cost_bound.specs.steps.Numbers.{capped}
-use Rattle.cost_bound.specs.steps.SizeView.{size_view}
+use Rattle.cost_bound.specs.private.Numbers.{capped}
+use Rattle.cost_bound.specs.private.SizeView.{size_view}
 use Rattle.cost_bound.proofs.Places.{place_before}
 use Rattle.cost_bound.proofs.Turns.{keys_of_more, values_of_more}
 use Rattle.cost_bound.proofs.made.key_mass.Goals as goal

@@ -1,7 +1,7 @@
 use Rattle.std.proofs.Common.{◌≡◌, ◌≤◌, length, drop}
 use Rattle.cel_costs.specs.Costs.{keys_of, masses, values_of}
-use Rattle.cost_bound.specs.steps.Numbers.{capped}
-use Rattle.cost_bound.specs.steps.SizeView.{sizes_view}
+use Rattle.cost_bound.specs.private.Numbers.{capped}
+use Rattle.cost_bound.specs.private.SizeView.{sizes_view}
 use Rattle.cost_bound.proofs.made.key_mass.Given as goal
 
 abbrev pub invariant-loop-at : goal.invariant-loop-at

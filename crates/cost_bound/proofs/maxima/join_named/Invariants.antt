@@ -1,7 +1,7 @@
 use Rattle.std.proofs.Common.{◌≡◌, ℕ, ◌+◌, ◌<◌, ◌≤◌, List, [], length, drop, max}
 use Rattle.cel_costs.specs.Sizes.{Size}
-use Rattle.cost_bound.specs.steps.Numbers.{capped}
-use Rattle.cost_bound.specs.steps.Formulas.{AreKinds}
+use Rattle.cost_bound.specs.private.Numbers.{capped}
+use Rattle.cost_bound.specs.private.Formulas.{AreKinds}
 use Rattle.cost_bound.proofs.maxima.join_named.Given as goal
 
 abbrev pub invariant-loop-at : goal.invariant-loop-at

@@ -3,17 +3,17 @@ use Rattle.std.proofs.lemmas.Grind.{common_steps}
 use Rattle.std.proofs.lemmas.Result.{IfOk-weaker}
 use Rattle.cel_types.specs.Elaborated.{kinds}
 use Rattle.cel_types.specs.View.{expr_view, loop_of}
-use Rattle.cel_types.specs.steps.ExprViews.{exprs_view, parts_view}
+use Rattle.cel_types.specs.private.ExprViews.{exprs_view, parts_view}
 use Rattle.cel_types.specs.declared.typed.TypedExpr.{the_lemmas}
 use Rattle.cel_value.specs.Texts.{text_view}
 use Rattle.cel_value.specs.Types.{bool_type, type_view}
 use Rattle.cel_costs.specs.Costs.{charge_at, cost_of, size_of, sizes_of}
 use Rattle.cel_costs.specs.Sizes.{Size}
-use Rattle.cost_bound.specs.steps.Measuring.{call_part, next_in, turn_in}
-use Rattle.cost_bound.specs.steps.Memos.{InTurns, MemoHolds, known_view, memo_view, memos_view, part_at}
-use Rattle.cost_bound.specs.steps.Numbers.{capped}
-use Rattle.cost_bound.specs.steps.ScopeView.{locals_view, scope_view}
-use Rattle.cost_bound.specs.steps.SizeView.{size_view, variables_view}
+use Rattle.cost_bound.specs.private.Measuring.{call_part, next_in, turn_in}
+use Rattle.cost_bound.specs.private.Memos.{InTurns, MemoHolds, known_view, memo_view, memos_view, part_at}
+use Rattle.cost_bound.specs.private.Numbers.{capped}
+use Rattle.cost_bound.specs.private.ScopeView.{locals_view, scope_view}
+use Rattle.cost_bound.specs.private.SizeView.{size_view, variables_view}
 use Rattle.cost_bound.specs.declared.steady.Around.{Around}
 use Rattle.cost_bound.proofs.Alike.{size_count}
 use Rattle.cost_bound.proofs.Calls.{call_costs, part_covers}

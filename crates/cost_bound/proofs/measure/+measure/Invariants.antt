@@ -1,14 +1,14 @@
 use Rattle.std.proofs.Common.{◌≡◌, ℕ, ◌+◌, ◌<◌, ◌≤◌, List, ◌++◌, drop, get_or, length}
 use Rattle.cel_types.specs.View.{expr_view}
-use Rattle.cel_types.specs.steps.ExprViews.{exprs_view, parts_view}
+use Rattle.cel_types.specs.private.ExprViews.{exprs_view, parts_view}
 use Rattle.cel_types.specs.declared.typed.TypedExpr.{TypedExpr}
 use Rattle.cel_costs.specs.Costs.{costs_of, grown, sizes_of, total, turns_cost}
 use Rattle.cel_costs.specs.Sizes.{Size}
-use Rattle.cost_bound.specs.steps.Measuring.{next_in, turn_in}
-use Rattle.cost_bound.specs.steps.Memos.{MemoHolds, InTurns, memo_at, memos_view}
-use Rattle.cost_bound.specs.steps.Numbers.{capped}
-use Rattle.cost_bound.specs.steps.ScopeView.{scope_view}
-use Rattle.cost_bound.specs.steps.SizeView.{size_view, sizes_view}
+use Rattle.cost_bound.specs.private.Measuring.{next_in, turn_in}
+use Rattle.cost_bound.specs.private.Memos.{MemoHolds, InTurns, memo_at, memos_view}
+use Rattle.cost_bound.specs.private.Numbers.{capped}
+use Rattle.cost_bound.specs.private.ScopeView.{scope_view}
+use Rattle.cost_bound.specs.private.SizeView.{size_view, sizes_view}
 use Rattle.cost_bound.proofs.measure.+measure.Given as goal
 
 abbrev pub invariant-measure_each-loop-expr : goal.invariant-measure_each-loop-expr

@@ -1,5 +1,5 @@
 use Rattle.std.proofs.Common.{◌≡◌, ℕ, ◌-◌, ◌≤◌, length}
-use Rattle.cost_bound.specs.steps.Memos.{memo_at, memos_view}
+use Rattle.cost_bound.specs.private.Memos.{memo_at, memos_view}
 use Rattle.cost_bound.proofs.memo.padded.Given as goal
 
 abbrev pub invariant-padding : goal.invariant-padding

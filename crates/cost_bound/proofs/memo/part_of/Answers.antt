@@ -1,5 +1,5 @@
 use Rattle.std.proofs.Common.{ap, sym, ◌∙◌, arith}
-use Rattle.cost_bound.specs.steps.Memos.{memo_view}
+use Rattle.cost_bound.specs.private.Memos.{memo_view}
 use Rattle.cost_bound.proofs.MemoViews.{at_beyond, at_place, view_parts}
 use Rattle.cost_bound.proofs.memo.part_of.Goals as goal
 

@@ -1,5 +1,5 @@
 use Rattle.std.proofs.Common.{ap, ◌∙◌}
-use Rattle.cost_bound.specs.steps.Formulas.{formula_view}
+use Rattle.cost_bound.specs.private.Formulas.{formula_view}
 use Rattle.cost_bound.proofs.Formulas.{view_both, view_either, view_maxima}
 use Rattle.cost_bound.proofs.numbers.+evaluate.Goals as goal
 

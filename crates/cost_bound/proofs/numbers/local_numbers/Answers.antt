@@ -1,5 +1,5 @@
 use Rattle.std.proofs.Common.{refl}
-use Rattle.cost_bound.specs.steps.Formulas.{local}
+use Rattle.cost_bound.specs.private.Formulas.{local}
 use Rattle.cost_bound.proofs.Formulas.{local_has}
 use Rattle.cost_bound.proofs.numbers.local_numbers.Goals as goal
 

@@ -1,4 +1,4 @@
-use Rattle.cost_bound.specs.steps.Formulas.{maxima_view}
+use Rattle.cost_bound.specs.private.Formulas.{maxima_view}
 use Rattle.cost_bound.proofs.Formulas.{maxima_has}
 use Rattle.cost_bound.proofs.numbers.maxima_numbers.Goals as goal
 

@@ -1,7 +1,7 @@
 use Rattle.std.proofs.Common.{◌≡◌, ◌<◌, length, get_or, sym, ap, ◌∙◌}
 use Rattle.cel_types.specs.TypedMeaning.{local_at}
 use Rattle.cel_costs.specs.Costs.{known}
-use Rattle.cost_bound.specs.steps.Formulas.{seen_all, seen_of}
+use Rattle.cost_bound.specs.private.Formulas.{seen_all, seen_of}
 use Rattle.cost_bound.specs.declared.seen.Kind.TheVariants as kinds
 use Rattle.cost_bound.proofs.Formulas.{seen_at}
 use Rattle.cost_bound.proofs.seen.is_of_kind.Goals as goal

@@ -1,8 +1,8 @@
 use Rattle.std.proofs.Common.{◌≡◌, ◌<◌, length, get_or, sym, ap}
 use Rattle.cel_types.specs.TypedMeaning.{local_at}
 use Rattle.cel_costs.specs.Costs.{known}
-use Rattle.cost_bound.specs.steps.Formulas.{seen_all, seen_of}
-use Rattle.cost_bound.specs.steps.Numbers.{capped}
+use Rattle.cost_bound.specs.private.Formulas.{seen_all, seen_of}
+use Rattle.cost_bound.specs.private.Numbers.{capped}
 use Rattle.cost_bound.specs.declared.seen.Kind.TheVariants as kinds
 use Rattle.cost_bound.proofs.Formulas.{seen_at, seen_length, seen_none}
 use Rattle.cost_bound.proofs.seen.length_of.Goals as goal

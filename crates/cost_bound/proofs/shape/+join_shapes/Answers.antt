@@ -1,6 +1,6 @@
 use Rattle.std.proofs.Common.{◌≡◌, List, [], ap, ◌∙◌}
 use Rattle.cel_costs.specs.Sizes.{Size, join}
-use Rattle.cost_bound.specs.steps.Formulas.{joined, shape_view}
+use Rattle.cost_bound.specs.private.Formulas.{joined, shape_view}
 use Rattle.cost_bound.proofs.Shapes.{all_joined, flat_right, items_within, view_item, view_joined}
 use Rattle.cost_bound.proofs.shape.+join_shapes.Goals as goal
 

@@ -2,7 +2,7 @@ use Rattle.std.proofs.Common.{ap, ◌∙◌, sym}
 use Rattle.std.proofs.lemmas.Result.{IfOk-weaker}
 use Rattle.cel_costs.specs.Costs.{value_size}
 use Rattle.cel_costs.specs.Sizes.{Many}
-use Rattle.cost_bound.specs.steps.Formulas.{shape_view}
+use Rattle.cost_bound.specs.private.Formulas.{shape_view}
 use Rattle.cost_bound.proofs.Shapes.{view_item, view_items}
 use Rattle.cost_bound.proofs.shape.+size_by.Goals as goal
 

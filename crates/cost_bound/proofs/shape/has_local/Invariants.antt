@@ -2,7 +2,7 @@ use Rattle.std.proofs.Common.{◌≡◌, List, drop}
 use Rattle.cel_types.specs.TypedMeaning.{local_at}
 use Rattle.cel_costs.specs.Costs.{known}
 use Rattle.cel_costs.specs.Sizes.{Size, join}
-use Rattle.cost_bound.specs.steps.Formulas.{joined}
+use Rattle.cost_bound.specs.private.Formulas.{joined}
 use Rattle.cost_bound.proofs.shape.has_local.Given as goal
 
 -- where the wanted one is among the others, it is among all

@@ -1,7 +1,7 @@
 use Rattle.std.proofs.Common.{ap, ◌∙◌}
 use Rattle.cel_costs.specs.Sizes.{join}
-use Rattle.cost_bound.specs.steps.ScopeView.{scope_view}
-use Rattle.cost_bound.specs.steps.SizeView.{size_view}
+use Rattle.cost_bound.specs.private.ScopeView.{scope_view}
+use Rattle.cost_bound.specs.private.SizeView.{size_view}
 use Rattle.cost_bound.proofs.Forms.{gathered_more, join_flat}
 use Rattle.cost_bound.proofs.SizeViews.{view_flat}
 use Rattle.cost_bound.proofs.shape.join_locals.Goals as goal

@@ -1,8 +1,8 @@
 use Rattle.std.proofs.Common.{◌≡◌, drop}
 use Rattle.cel_costs.specs.Sizes.{join}
-use Rattle.cost_bound.specs.steps.Formulas.{joined}
-use Rattle.cost_bound.specs.steps.ScopeView.{scope_view}
-use Rattle.cost_bound.specs.steps.SizeView.{size_view}
+use Rattle.cost_bound.specs.private.Formulas.{joined}
+use Rattle.cost_bound.specs.private.ScopeView.{scope_view}
+use Rattle.cost_bound.specs.private.SizeView.{size_view}
 use Rattle.cost_bound.proofs.shape.join_locals.Given as goal
 
 abbrev pub invariant-loop-local : goal.invariant-loop-local

@@ -1,6 +1,6 @@
 use Rattle.std.proofs.Common.{◌≡◌, List, drop}
 use Rattle.cel_costs.specs.Sizes.{Size, join}
-use Rattle.cost_bound.specs.steps.Formulas.{joined}
+use Rattle.cost_bound.specs.private.Formulas.{joined}
 use Rattle.cost_bound.proofs.shape.with_locals.Given as goal
 
 abbrev pub invariant-loop-local : goal.invariant-loop-local

@@ -1,6 +1,6 @@
 use Rattle.std.proofs.Common.{◌≡◌, IfOk}
 use Rattle.cel_costs.specs.Sizes.{Table, join}
-use Rattle.cost_bound.specs.steps.SizeView.{size_view}
+use Rattle.cost_bound.specs.private.SizeView.{size_view}
 use Rattle.cost_bound.proofs.SizeViews.{view_many, view_table}
 use Rattle.cost_bound.proofs.size.+join.Goals as goal
 

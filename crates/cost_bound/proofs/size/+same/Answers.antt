@@ -1,5 +1,5 @@
 use Rattle.std.proofs.Common.{◌≡◌, false, true}
-use Rattle.cost_bound.specs.steps.SizeView.{size_view}
+use Rattle.cost_bound.specs.private.SizeView.{size_view}
 use Rattle.cost_bound.proofs.SizeViews.{view_text, view_many, view_table, no_text, no_many, no_table}
 use Rattle.cost_bound.proofs.size.+same.Goals as goal
 

@@ -1,7 +1,7 @@
 use Rattle.std.proofs.Common.{◌≡◌, ℕ, drop}
-use Rattle.cel_types.specs.steps.ExprViews.{exprs_view}
-use Rattle.cost_bound.specs.steps.Memos.{EachNamesOnly, IsSettled}
-use Rattle.cost_bound.specs.steps.Numbers.{capped}
+use Rattle.cel_types.specs.private.ExprViews.{exprs_view}
+use Rattle.cost_bound.specs.private.Memos.{EachNamesOnly, IsSettled}
+use Rattle.cost_bound.specs.private.Numbers.{capped}
 use Rattle.cost_bound.proofs.steady.+steady.Given as goal
 
 -- where the others name no more, all do not

@@ -1,7 +1,7 @@
 use Rattle.std.proofs.Common.{[], ap, ◌∙◌, arith}
 use Rattle.std.proofs.lemmas.Result.{IfOk-weaker}
 use Rattle.cel_types.specs.View.{expr_view}
-use Rattle.cel_types.specs.steps.ExprViews.{exprs_view}
+use Rattle.cel_types.specs.private.ExprViews.{exprs_view}
 use Rattle.cel_value.specs.Types.{type_view}
 use Rattle.cost_bound.proofs.ExprViews.{view_attribute, view_call, view_constant, view_list, view_local, view_loop, view_map}
 use Rattle.cost_bound.proofs.Remembering.{each_holds, more_parts}

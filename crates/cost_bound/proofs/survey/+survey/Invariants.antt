@@ -1,7 +1,7 @@
 use Rattle.std.proofs.Common.{◌≡◌, ℕ, ◌<◌, ◌≤◌, get_or, length}
 use Rattle.cel_types.specs.View.{expr_view}
 use Rattle.cel_types.specs.declared.typed.TypedExpr.{TypedExpr}
-use Rattle.cost_bound.specs.steps.Memos.{HoldsForAll, memo_at, memos_view}
+use Rattle.cost_bound.specs.private.Memos.{HoldsForAll, memo_at, memos_view}
 use Rattle.cost_bound.proofs.survey.+survey.Given as goal
 
 -- what is known of the expressions so far

@@ -1,7 +1,7 @@
 use Rattle.std.proofs.Common.{◌≡◌, ap, ◌∙◌}
 use Rattle.cost_bound.specs.declared.memo.Memo.{Formed}
-use Rattle.cost_bound.specs.steps.Formulas.{formula_view, shape_view}
-use Rattle.cost_bound.specs.steps.Memos.{formed, memo_view}
+use Rattle.cost_bound.specs.private.Formulas.{formula_view, shape_view}
+use Rattle.cost_bound.specs.private.Memos.{formed, memo_view}
 use Rattle.cost_bound.proofs.MemoViews.{view_formed}
 use Rattle.cost_bound.proofs.Remembering.{holds_formed}
 use Rattle.cost_bound.proofs.survey.form_or.Goals as goal

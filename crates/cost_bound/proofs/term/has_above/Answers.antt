@@ -1,5 +1,5 @@
 use Rattle.std.proofs.Common.{◌≤◌, arith}
-use Rattle.cost_bound.specs.steps.Formulas.{greatest_at, term_at}
+use Rattle.cost_bound.specs.private.Formulas.{greatest_at, term_at}
 use Rattle.cost_bound.proofs.Terms.{term_among}
 use Rattle.cost_bound.proofs.term.has_above.Goals as goal
 

@@ -1,5 +1,5 @@
 use Rattle.std.proofs.Common.{sym, ap, ◌∙◌, arith}
-use Rattle.cost_bound.specs.steps.Numbers.{capped}
+use Rattle.cost_bound.specs.private.Numbers.{capped}
 use Rattle.cost_bound.proofs.Terms.{lengths_before}
 use Rattle.cost_bound.proofs.term.lengths_in.Goals as goal
 

@@ -1,5 +1,5 @@
 use Rattle.std.proofs.Common.{max, ap, ◌∙◌}
-use Rattle.cost_bound.specs.steps.Formulas.{greatest_at}
+use Rattle.cost_bound.specs.private.Formulas.{greatest_at}
 use Rattle.cost_bound.proofs.Terms.{greatest_pushed}
 use Rattle.cost_bound.proofs.term.with_term.Goals as goal
 

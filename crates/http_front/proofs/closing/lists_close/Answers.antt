@@ -2,7 +2,7 @@ use Rattle.std.proofs.Common.{rules, tests}
 use Rattle.std.proofs.lemmas.Iterator.Consumers.{YieldsList-from_first}
 use Rattle.std.proofs.lemmas.Iterator.Search.{any_from_yields_List}
 use Rattle.http_front.specs.Closing.{is_close}
-use Rattle.http_front.specs.steps.Elements.{elements_left}
+use Rattle.http_front.specs.private.Elements.{elements_left}
 use Rattle.http_front.proofs.closing.lists_close.Goals as goal
 
 pub returns : goal.returns

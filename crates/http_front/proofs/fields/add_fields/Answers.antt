@@ -1,6 +1,6 @@
 use Rattle.httparse.specs.Spans.{header_bytes}
 use Rattle.attributes.specs.Request.{IsTextEntry}
-use Rattle.http_front.specs.steps.Parsed.{HasAsciiName}
+use Rattle.http_front.specs.private.Parsed.{HasAsciiName}
 use Rattle.http_front.proofs.FieldLists.{all_map_at}
 use Rattle.http_front.proofs.Spans.{no_span}
 use Rattle.http_front.proofs.fields.add_fields.Goals as goal

@@ -4,7 +4,7 @@ use Rattle.attributes.specs.Conn.{conn_view}
 use Rattle.httparse.specs.Grammar.{print_request}
 use Rattle.http_front.specs.Head.{head_room}
 use Rattle.http_front.specs.Parts.{parts_view}
-use Rattle.http_front.specs.steps.Parts.{head_in}
+use Rattle.http_front.specs.private.Parts.{head_in}
 use Rattle.http_front.proofs.SpelledAsks.{parts_asked, parts_outside, parts_refused}
 use Rattle.http_front.proofs.Spelling.{spelling_fault}
 use Rattle.http_front.proofs.parts.request_of_parts.Goals as goal

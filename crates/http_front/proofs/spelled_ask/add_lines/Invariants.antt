@@ -2,8 +2,8 @@ use Rattle.std.proofs.Common.{List, ◌++◌, map, take}
 use Rattle.attributes.specs.Headers.{Entry}
 use Rattle.http_front.specs.Parts.{field_view}
 use Rattle.http_front.specs.Rules.{lowered}
-use Rattle.http_front.specs.steps.Parsed.{IsFraming}
-use Rattle.http_front.specs.steps.Parts.{head_fields}
+use Rattle.http_front.specs.private.Parsed.{IsFraming}
+use Rattle.http_front.specs.private.Parts.{head_fields}
 use Rattle.http_front.proofs.spelled_ask.add_lines.Given as goal
 
 abbrev pub invariant-loop-line : goal.invariant-loop-line

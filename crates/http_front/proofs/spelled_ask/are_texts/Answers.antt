@@ -2,7 +2,7 @@ use Rattle.std.proofs.Common.{refl}
 use Rattle.std.proofs.lemmas.Bool.{false≢true}
 use Rattle.std.proofs.lemmas.List.{take_all}
 use Rattle.http_front.specs.Rules.{IsBadText}
-use Rattle.http_front.specs.steps.Parts.{HasTextValue}
+use Rattle.http_front.specs.private.Parts.{HasTextValue}
 use Rattle.http_front.proofs.SpelledAsks.{fields_all_more, fields_any}
 use Rattle.http_front.proofs.spelled_ask.are_texts.Goals as goal
 

@@ -1,5 +1,5 @@
 use Rattle.attributes.specs.Request.{IsTextEntry}
-use Rattle.http_front.specs.steps.Parsed.{HasAsciiName}
+use Rattle.http_front.specs.private.Parsed.{HasAsciiName}
 use Rattle.http_front.proofs.SpelledAsks.{fields_at}
 use Rattle.http_front.proofs.spelled_ask.draft_lines.Goals as goal
 

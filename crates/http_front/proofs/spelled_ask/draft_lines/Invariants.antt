@@ -3,7 +3,7 @@ use Rattle.attributes.specs.Draft.{with_entries}
 use Rattle.attributes.specs.Headers.{line_entry}
 use Rattle.http_front.specs.Parts.{field_view}
 use Rattle.http_front.specs.Rules.{lowered}
-use Rattle.http_front.specs.steps.Parts.{head_fields}
+use Rattle.http_front.specs.private.Parts.{head_fields}
 use Rattle.http_front.proofs.spelled_ask.draft_lines.Given as goal
 
 abbrev pub invariant-loop-line : goal.invariant-loop-line

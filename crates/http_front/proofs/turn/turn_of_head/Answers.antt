@@ -1,6 +1,6 @@
 use Rattle.std.proofs.Common.{rules}
 use Rattle.attributes.specs.Conn.{conn_view}
-use Rattle.http_front.specs.steps.Asks.{IsAskOf}
+use Rattle.http_front.specs.private.Asks.{IsAskOf}
 use Rattle.http_front.proofs.turn.turn_of_head.Goals as goal
 
 pub returns-in-Some : goal.returns-in-Some

@@ -1,6 +1,6 @@
 use Rattle.std.proofs.Common.{refl}
 use Rattle.program_jobs.proofs.BatchEnds.{fresh_buffer}
-use Rattle.program_jobs.specs.steps.BatchJob.{EndsLines}
+use Rattle.program_jobs.specs.private.BatchJob.{EndsLines}
 use Rattle.program_jobs.proofs.batch_job.answer_lines.Goals as goal
 
 pub returns-in-Ok-batch : goal.returns-in-Ok-batch

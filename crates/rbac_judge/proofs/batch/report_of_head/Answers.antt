@@ -2,7 +2,7 @@ use Rattle.std.proofs.Common.{refl}
 use Rattle.attributes.specs.Conn.{conn_view}
 use Rattle.attributes.specs.Limits.{largest}
 use Rattle.rbac_judge.proofs.JudgeLemmas.{under_found}
-use Rattle.rbac_judge.specs.steps.Reading.{IsFound}
+use Rattle.rbac_judge.specs.private.Reading.{IsFound}
 use Rattle.rbac_judge.proofs.batch.report_of_head.Goals as goal
 
 pub returns : goal.returns

@@ -2,7 +2,7 @@ use Rattle.std.proofs.Common.{◌∙◌, ◌++◌, ap, arith, refl}
 use Rattle.std.specs.Prelude.{[]}
 use Rattle.std.proofs.KnownBytes.{Consumes-nil, Consumes-trans}
 use Rattle.http_front.specs.Front.{fed_front, keeping}
-use Rattle.rbac_judge.specs.steps.Reading.{head_ask}
+use Rattle.rbac_judge.specs.private.Reading.{head_ask}
 use Rattle.rbac_judge.proofs.InputLemmas.{consumed_none, found_of_front, found_of_taken, front_fed, none_of_all, nothing_read, unfinished_of_front}
 use Rattle.rbac_judge.proofs.input.first_ask.Goals as goal
 

@@ -1,7 +1,7 @@
 -- The front has what was read, which is gone from the input, and each read was needed.
 use Rattle.std.proofs.Common.{◌≡◌, ℕ, List}
 use Rattle.std.specs.Io.KnownBytes.{Consumes}
-use Rattle.rbac_judge.specs.steps.Reading.{IsJustEnough}
+use Rattle.rbac_judge.specs.private.Reading.{IsJustEnough}
 use Rattle.rbac_judge.proofs.InputLemmas.{front_with}
 use Rattle.rbac_judge.proofs.input.first_ask.Given as goal
 

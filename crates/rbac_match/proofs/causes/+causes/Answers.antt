@@ -5,8 +5,8 @@ use Rattle.rbac_match.specs.Formula.{Formulas, formula, holds}
 use Rattle.rbac_match.specs.Tokens.{first_of}
 use Rattle.rbac_match.specs.declared.causes.Cause.{Cause}
 use Rattle.rbac_match.specs.declared.list.Joint.TheVariants.{Not}
-use Rattle.rbac_match.specs.steps.Causes.{Finds, below, causes_in}
-use Rattle.rbac_match.specs.steps.Nodes.{formula_in, formulas_in}
+use Rattle.rbac_match.specs.private.Causes.{Finds, below, causes_in}
+use Rattle.rbac_match.specs.private.Nodes.{formula_in, formulas_in}
 use Rattle.rbac_match.proofs.CauseLists.{all_here, finds_deeper, finds_more, first_here, first_later, found_few, step_to}
 use Rattle.rbac_match.proofs.NodeLists.{first_rule}
 use Rattle.rbac_match.proofs.causes.+causes.Goals as goal

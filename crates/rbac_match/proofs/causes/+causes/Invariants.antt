@@ -1,7 +1,7 @@
 use Rattle.std.proofs.Common.{◌≡◌, ◌+◌, ◌*◌, ◌≤◌, ◌++◌, length, map, take}
 use Rattle.rbac_match.specs.Causes.{all_causes, first_causes}
-use Rattle.rbac_match.specs.steps.Causes.{below, causes_in}
-use Rattle.rbac_match.specs.steps.Nodes.{formulas_in}
+use Rattle.rbac_match.specs.private.Causes.{below, causes_in}
+use Rattle.rbac_match.specs.private.Nodes.{formulas_in}
 use Rattle.rbac_match.proofs.causes.+causes.Given as goal
 
 abbrev pub decreases-node_causes : goal.decreases-node_causes

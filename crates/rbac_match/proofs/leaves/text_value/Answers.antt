@@ -1,5 +1,5 @@
 use Rattle.rbac_match.specs.Text.{text_holds}
-use Rattle.rbac_match.specs.steps.Leaves.{text_in}
+use Rattle.rbac_match.specs.private.Leaves.{text_in}
 use Rattle.rbac_match.proofs.NeedLemmas.{only_value}
 use Rattle.rbac_match.proofs.leaves.text_value.Goals as goal
 

@@ -1,7 +1,7 @@
 use Rattle.std.proofs.Common.{◌≡◌, true, false, sym, ap, ◌∙◌, arith}
 use Rattle.rbac_match.specs.Formula.{Formulas, formula, holds}
 use Rattle.rbac_match.specs.Tokens.{first_of}
-use Rattle.rbac_match.specs.steps.Nodes.{formula_in, formulas_in}
+use Rattle.rbac_match.specs.private.Nodes.{formula_in, formulas_in}
 use Rattle.rbac_match.proofs.Loops.{all_at, some_at}
 use Rattle.rbac_match.proofs.NodeLists.{first_rule}
 use Rattle.rbac_match.proofs.matching.+matching.Goals as goal

@@ -1,6 +1,6 @@
 use Rattle.std.proofs.Common.{◌≡◌, ◌+◌, ◌*◌, ◌≤◌, length}
 use Rattle.rbac_match.specs.Formula.{all_hold, some_hold}
-use Rattle.rbac_match.specs.steps.Nodes.{formulas_in}
+use Rattle.rbac_match.specs.private.Nodes.{formulas_in}
 use Rattle.rbac_match.proofs.matching.+matching.Given as goal
 
 abbrev pub decreases-node_matches : goal.decreases-node_matches

@@ -2,7 +2,7 @@ use Rattle.std.proofs.Common.{◌≡◌, ◌≤◌, ◌⊎◌, [], true, length}
 use Rattle.std.specs.Prelude.{unwrap_or}
 use Rattle.attributes.specs.Request.{RequestValue, header_of}
 use Rattle.rbac_match.specs.Formula.{some_hold}
-use Rattle.rbac_match.specs.steps.Nodes.{formulas_in}
+use Rattle.rbac_match.specs.private.Nodes.{formulas_in}
 use Rattle.rbac_match.proofs.needs.all_need.Given as goal
 
 abbrev pub invariant-loop-node : goal.invariant-loop-node

@@ -3,7 +3,7 @@ use Rattle.attributes.specs.Attributes.{url_path_of}
 use Rattle.attributes.specs.Request.{RequestValue}
 use Rattle.rbac_match.specs.Formula.{some_hold}
 use Rattle.rbac_match.specs.Needs.{Begins}
-use Rattle.rbac_match.specs.steps.Nodes.{formulas_in}
+use Rattle.rbac_match.specs.private.Nodes.{formulas_in}
 use Rattle.rbac_match.proofs.needs.common_start.Given as goal
 
 abbrev pub invariant-loop-node : goal.invariant-loop-node

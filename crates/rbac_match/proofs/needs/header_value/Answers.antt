@@ -2,7 +2,7 @@ use Rattle.std.proofs.Common.{◌≡◌, inl, inr, ap, ◌∙◌}
 use Rattle.rbac_match.specs.Formula.{some_hold}
 use Rattle.rbac_match.specs.Tokens.{decode}
 use Rattle.rbac_match.specs.View.{rules_view}
-use Rattle.rbac_match.specs.steps.Nodes.{formulas_in}
+use Rattle.rbac_match.specs.private.Nodes.{formulas_in}
 use Rattle.rbac_match.proofs.NeedLemmas.{first_or_behind}
 use Rattle.rbac_match.proofs.needs.header_value.Goals as goal
 

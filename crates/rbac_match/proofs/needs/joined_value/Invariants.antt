@@ -1,7 +1,7 @@
 use Rattle.std.proofs.Common.{◌≡◌, ◌≤◌, true, length}
 use Rattle.attributes.specs.Request.{RequestValue}
 use Rattle.rbac_match.specs.Formula.{all_hold}
-use Rattle.rbac_match.specs.steps.Nodes.{formulas_in}
+use Rattle.rbac_match.specs.private.Nodes.{formulas_in}
 use Rattle.rbac_match.proofs.needs.joined_value.Given as goal
 
 abbrev pub invariant-loop-node : goal.invariant-loop-node

@@ -3,7 +3,7 @@ use Rattle.attributes.specs.Attributes.{url_path_of}
 use Rattle.rbac_match.specs.Formula.{some_hold}
 use Rattle.rbac_match.specs.Tokens.{decode}
 use Rattle.rbac_match.specs.View.{rules_view}
-use Rattle.rbac_match.specs.steps.Nodes.{formulas_in}
+use Rattle.rbac_match.specs.private.Nodes.{formulas_in}
 use Rattle.rbac_match.proofs.NeedLemmas.{begins_more, first_or_behind}
 use Rattle.rbac_match.proofs.needs.path_start.Goals as goal
 

@@ -1,7 +1,7 @@
 use Rattle.std.proofs.Common.{◌≤◌, ◌<◌, ℕ, List, length}
 use Rattle.std.specs.Char.{to_ascii_lowercase}
 use Rattle.std.specs.Str.{str_to_ascii_lowercase}
-use Rattle.rbac_match.specs.steps.Search.{EndsWithMost}
+use Rattle.rbac_match.specs.private.Search.{EndsWithMost}
 use Rattle.rbac_match.proofs.Borders.{MayGrow}
 use Rattle.rbac_match.proofs.search.advance.Given as goal
 

@@ -2,7 +2,7 @@ use Rattle.std.proofs.Common.{◌≡◌, ◌+◌, ◌++◌, ℕ, List, [], ◌�
 use Rattle.std.proofs.lemmas.List.{length_push}
 use Rattle.std.specs.Char.{to_ascii_lowercase}
 use Rattle.std.specs.Str.{str_to_ascii_lowercase}
-use Rattle.rbac_match.specs.steps.Search.{EndsWithMost, AreBorders}
+use Rattle.rbac_match.specs.private.Search.{EndsWithMost, AreBorders}
 use Rattle.rbac_match.proofs.Borders.{rest_more, are_borders_push, no_borders, first_border}
 use Rattle.rbac_match.proofs.search.borders_of.Goals as goal
 

@@ -1,6 +1,6 @@
 use Rattle.std.proofs.Common.{◌≡◌, ◌+◌, length, take, drop}
 use Rattle.std.specs.Str.{str_to_ascii_lowercase}
-use Rattle.rbac_match.specs.steps.Search.{EndsWithMost, AreBorders}
+use Rattle.rbac_match.specs.private.Search.{EndsWithMost, AreBorders}
 use Rattle.rbac_match.proofs.search.borders_of.Given as goal
 
 abbrev pub invariant-loop-byte : goal.invariant-loop-byte

@@ -4,7 +4,7 @@ use Rattle.std.proofs.lemmas.List.{length-map}
 use Rattle.std.specs.Char.{to_ascii_lowercase}
 use Rattle.std.specs.Str.{str_to_ascii_lowercase}
 use Rattle.rbac_match.specs.Text.{is_substring}
-use Rattle.rbac_match.specs.steps.Search.{EndsWithFirst, EndsWithMost}
+use Rattle.rbac_match.specs.private.Search.{EndsWithFirst, EndsWithMost}
 use Rattle.rbac_match.proofs.Borders.{text_more, whole_part, substring_ends, none_more}
 use Rattle.rbac_match.proofs.search.contains_ignore_case.Goals as goal
 

@@ -1,6 +1,6 @@
 use Rattle.std.proofs.Common.{◌<◌, ◌≤◌, ℕ, length, take}
 use Rattle.std.specs.Str.{str_to_ascii_lowercase}
-use Rattle.rbac_match.specs.steps.Search.{EndsWithFirst, EndsWithMost}
+use Rattle.rbac_match.specs.private.Search.{EndsWithFirst, EndsWithMost}
 use Rattle.rbac_match.proofs.search.contains_ignore_case.Given as goal
 
 abbrev pub invariant-loop-byte : goal.invariant-loop-byte

@@ -4,7 +4,7 @@ use Rattle.proto_wire.proofs.PlaceExits.{exit_memory_or, exit_with}
 use Rattle.rbac_policy.specs.Admission.{Fault, in_message}
 use Rattle.rbac_policy.specs.Fault.{FilterFault, HoldsPolicies}
 use Rattle.rbac_policy.specs.Places.{PlacedOr, of_filter}
-use Rattle.rbac_policy.specs.steps.Conditions.{ConditionsFault}
+use Rattle.rbac_policy.specs.private.Conditions.{ConditionsFault}
 use Rattle.rbac_policy.proofs.Spending.{conditions_fail}
 use Rattle.rbac_policy.proofs.admission.admit_at.Goals as goal
 

@@ -19,7 +19,7 @@ use Rattle.rbac_policy.specs.Admitted.{filter_rules_view}
 use Rattle.rbac_policy.specs.Enforced.{Enforces, total_bound}
 use Rattle.rbac_policy.specs.Filter.{Filter}
 use Rattle.rbac_policy.specs.Message.{AreFilterRules}
-use Rattle.rbac_policy.specs.steps.Conditions.{ConditionsFault}
+use Rattle.rbac_policy.specs.private.Conditions.{ConditionsFault}
 use Rattle.rbac_policy.specs.Places.{PlacedOr, of_filter, of_rules}
 use Rattle.rbac_policy.proofs.Enforcing.{enforced_costs}
 use Rattle.rbac_policy.proofs.Places.{exit_at, exit_here, fields_placed, from_fields, or_part, rules_out}

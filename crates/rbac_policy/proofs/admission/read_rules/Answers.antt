@@ -19,9 +19,9 @@ use Rattle.rbac_policy.specs.Message.{IsPolicy, most_policies}
 use Rattle.rbac_policy.specs.Fault.{PolicyFault, RulesFault, audited, bad_action, in_policies, too_many}
 use Rattle.rbac_policy.specs.Named.{named_views}
 use Rattle.rbac_policy.specs.Places.{FieldsOr}
-use Rattle.rbac_policy.specs.steps.Conditions.{ConditionsFault, IsEnforced}
+use Rattle.rbac_policy.specs.private.Conditions.{ConditionsFault, IsEnforced}
 use Rattle.proto_wire.specs.Maps.{Entry, text, AreEntries, Readable, map_of, SomeEntryFault, SomeValueFault, in_entry, in_value}
-use Rattle.proto_wire.specs.steps.Maps.{Held}
+use Rattle.proto_wire.specs.private.Maps.{Held}
 use Rattle.proto_wire.proofs.MapLaws.{entries_readable}
 use Rattle.proto_wire.proofs.MapValues.{held_ordered, held_are_values}
 use Rattle.rbac_policy.proofs.Besides.{sorted_beside}

@@ -3,7 +3,7 @@ use Rattle.std.specs.FinMap.{entries}
 use Rattle.proto_wire.specs.Maps.{AreEntries, Entry, map_of, text}
 use Rattle.proto_wire.specs.Merge.{parts_view}
 use Rattle.rbac_policy.specs.Budget.{LeavesSteps}
-use Rattle.rbac_policy.specs.steps.Named.{names_view}
+use Rattle.rbac_policy.specs.private.Named.{names_view}
 use Rattle.rbac_policy.proofs.BudgetLemmas.{some_weaker, was_ok}
 use Rattle.rbac_policy.proofs.budget.over_in_entries.Goals as goal
 

@@ -4,7 +4,7 @@ use Rattle.smallvec.specs.SmallVec.{SmallVec}
 use Rattle.proto_wire.specs.Maps.{Entry, text}
 use Rattle.proto_wire.specs.Merge.{parts_view}
 use Rattle.rbac_policy.specs.Budget.{LeavesSteps}
-use Rattle.rbac_policy.specs.steps.Named.{names_view}
+use Rattle.rbac_policy.specs.private.Named.{names_view}
 use Rattle.rbac_policy.proofs.BudgetLemmas.{one_more, some_weaker}
 use Rattle.rbac_policy.proofs.budget.over_in_policies.Goals as goal
 

@@ -1,6 +1,6 @@
 use Rattle.std.proofs.Common.{◌≡◌, ◌+◌, ℕ, take}
 use Rattle.rbac_policy.specs.Budget.{EntriesCost}
-use Rattle.rbac_policy.specs.steps.Named.{names_view}
+use Rattle.rbac_policy.specs.private.Named.{names_view}
 use Rattle.rbac_policy.proofs.budget.over_in_policies.Given as goal
 
 abbrev pub invariant-loop-entry : goal.invariant-loop-entry

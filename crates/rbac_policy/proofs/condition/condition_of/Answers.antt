@@ -3,7 +3,7 @@ use Rattle.cel_tree.specs.View.{checked_view}
 use Rattle.cel_types.specs.TypingFaults.{CheckFault}
 use Rattle.proto_wire.proofs.PlaceExits.{exit_memory_or, exit_with}
 use Rattle.rbac_policy.specs.Places.{NodeOr}
-use Rattle.rbac_policy.specs.steps.Conditions.{ExpressionFault, untyped}
+use Rattle.rbac_policy.specs.private.Conditions.{ExpressionFault, untyped}
 use Rattle.rbac_policy.proofs.Places.{untyped_node}
 use Rattle.rbac_policy.proofs.condition.condition_of.Goals as goal
 

@@ -15,7 +15,7 @@ use Rattle.cel_tree.specs.Places.{NamesNode}
 use Rattle.cel_check.specs.Places.{id_of}
 use Rattle.machine_code.specs.Typable.{Forward}
 use Rattle.rbac_policy.specs.Costs.{Costs}
-use Rattle.rbac_policy.specs.steps.Conditions.{ExpressionFault, not_bool, too_costly}
+use Rattle.rbac_policy.specs.private.Conditions.{ExpressionFault, not_bool, too_costly}
 use Rattle.rbac_policy.specs.Places.{NodeOr, not_bool_at}
 use Rattle.rbac_policy.proofs.Places.{exit_no_part}
 use Rattle.rbac_policy.proofs.condition.enforced.Goals as goal

@@ -2,7 +2,7 @@ use Rattle.std.proofs.Common.{◌≡◌, false, true, inl, inr, map, subst}
 use Rattle.std.proofs.lemmas.List.{take_all}
 use Rattle.std.proofs.lemmas.Result.{err_from_is_err_and}
 use Rattle.rbac_policy.specs.Named.{policy_view}
-use Rattle.rbac_policy.specs.steps.Runs.{AnyProgram, PassesBound}
+use Rattle.rbac_policy.specs.private.Runs.{AnyProgram, PassesBound}
 use Rattle.rbac_policy.proofs.FirstRun.{Failed, next_failed, none_first, this_first, this_asks, this_has_none}
 use Rattle.rbac_policy.proofs.IndexLemmas.{ruled_tells}
 use Rattle.rbac_policy.proofs.decide.first_later.Goals as goal

@@ -1,7 +1,7 @@
 use Rattle.std.proofs.Common.{false, map, take}
 use Rattle.std.specs.List.{AllByRecursion}
 use Rattle.rbac_policy.specs.Named.{policy_view}
-use Rattle.rbac_policy.specs.steps.Runs.{Tells}
+use Rattle.rbac_policy.specs.private.Runs.{Tells}
 use Rattle.rbac_policy.proofs.decide.first_later.Given as goal
 
 abbrev pub invariant-loop-number : goal.invariant-loop-number

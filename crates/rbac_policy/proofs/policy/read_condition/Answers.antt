@@ -6,7 +6,7 @@ use Rattle.cel_tree.specs.Message.{ExprFault, ExprParts, ArePresent}
 use Rattle.cel_tree.specs.View.{checked_view}
 use Rattle.rbac_policy.specs.Message.{condition_in}
 use Rattle.rbac_policy.specs.Places.{ConditionPartOr}
-use Rattle.rbac_policy.specs.steps.Conditions.{ConditionFault, ExpressionFault, expression, unreadable}
+use Rattle.rbac_policy.specs.private.Conditions.{ConditionFault, ExpressionFault, expression, unreadable}
 use Rattle.rbac_policy.specs.Condition.{IsProgramOf}
 use Rattle.rbac_policy.specs.Named.{program_view}
 use Rattle.rbac_policy.proofs.Places.{expr_exit, node_out, of_expr_fault, of_expr_found}

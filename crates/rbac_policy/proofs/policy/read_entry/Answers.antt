@@ -8,7 +8,7 @@ use Rattle.rbac_policy.specs.Enforced.{bound_of}
 use Rattle.rbac_policy.specs.Fault.{PolicyFault}
 use Rattle.rbac_policy.specs.Keys.{rules_field}
 use Rattle.rbac_policy.specs.Named.{policy_view, program_view}
-use Rattle.rbac_policy.specs.steps.Conditions.{ConditionsFault, IsEnforced}
+use Rattle.rbac_policy.specs.private.Conditions.{ConditionsFault, IsEnforced}
 use Rattle.rbac_policy.proofs.Places.{entry_out}
 use Rattle.rbac_policy.proofs.policy.read_entry.Goals as goal
 

@@ -10,7 +10,7 @@ use Rattle.proto_wire.specs.Maps.{Entry, text, SomeValueFault}
 use Rattle.proto_wire.proofs.PlaceExits.{exit_memory_or, exit_with}
 use Rattle.proto_wire.proofs.MapOrder.{find_at}
 use Rattle.proto_wire.proofs.MapValues.{held_push}
-use Rattle.proto_wire.specs.steps.Maps.{Held}
+use Rattle.proto_wire.specs.private.Maps.{Held}
 use Rattle.rbac_match.specs.Tokens.{Token}
 use Rattle.rbac_match.proofs.Adding.{stays}
 use Rattle.rbac_policy.specs.declared.policy.NamedPolicy.{NamedPolicy}
@@ -18,8 +18,8 @@ use Rattle.rbac_policy.specs.Enforced.{bound_of, bounds_of}
 use Rattle.rbac_policy.specs.Fault.{PolicyFault}
 use Rattle.rbac_policy.specs.Named.{named_view, named_views, policy_view, program_view}
 use Rattle.rbac_policy.specs.Places.{PoliciesOr}
-use Rattle.rbac_policy.specs.steps.Conditions.{ConditionsFault, IsEnforced}
-use Rattle.rbac_policy.specs.steps.Named.{names_view}
+use Rattle.rbac_policy.specs.private.Conditions.{ConditionsFault, IsEnforced}
+use Rattle.rbac_policy.specs.private.Named.{names_view}
 use Rattle.rbac_policy.proofs.Besides.{name_same}
 use Rattle.rbac_policy.proofs.Places.{at_map, entry_in}
 use Rattle.rbac_policy.proofs.Spending.{bounds_push, one_fails}

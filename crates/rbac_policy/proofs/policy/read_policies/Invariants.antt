@@ -1,11 +1,11 @@
 use Rattle.std.proofs.Common.{◌≡◌, ◌≤◌, ◌++◌, List, length, take}
 use Rattle.proto_wire.specs.Maps.{text}
-use Rattle.proto_wire.specs.steps.Maps.{Held}
+use Rattle.proto_wire.specs.private.Maps.{Held}
 use Rattle.rbac_match.specs.Tokens.{Token}
 use Rattle.rbac_policy.specs.Enforced.{bounds_of}
 use Rattle.rbac_policy.specs.Named.{named_views}
-use Rattle.rbac_policy.specs.steps.Conditions.{IsEnforced}
-use Rattle.rbac_policy.specs.steps.Named.{names_view}
+use Rattle.rbac_policy.specs.private.Conditions.{IsEnforced}
+use Rattle.rbac_policy.specs.private.Named.{names_view}
 use Rattle.rbac_policy.proofs.policy.read_policies.Given as goal
 
 abbrev pub invariant-loop-entry : goal.invariant-loop-entry

@@ -18,7 +18,7 @@ use Rattle.rbac_policy.specs.Message.{rule_depth, condition_in}
 use Rattle.rbac_policy.specs.Fault.{PolicyFault, policy_fields, lacks_side, both_conditions, in_permission, in_principal}
 use Rattle.rbac_policy.specs.Named.{program_view}
 use Rattle.rbac_policy.specs.Places.{PlacedOr, of_policy}
-use Rattle.rbac_policy.specs.steps.Conditions.{ConditionFault, ConditionsFault, HasProgram}
+use Rattle.rbac_policy.specs.private.Conditions.{ConditionFault, ConditionsFault, HasProgram}
 use Rattle.rbac_policy.proofs.Places.{exit_here, exit_own, from_conditions, from_side, or_part}
 use Rattle.rbac_policy.proofs.Spending.{condition_fails}
 use Rattle.rbac_policy.proofs.policy.read_policy.Goals as goal

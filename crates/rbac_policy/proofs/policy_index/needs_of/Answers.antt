@@ -1,7 +1,7 @@
 use Rattle.std.proofs.Common.{◌≡◌, ◌+◌, ◌∷◌, ◌++◌, [], map, take, sym, ap, subst, ◌∙◌}
 use Rattle.std.proofs.lemmas.List.{map_more, take_all}
 use Rattle.rbac_policy.specs.Named.{policy_view}
-use Rattle.rbac_policy.specs.steps.PolicyIndex.{AreInOrder}
+use Rattle.rbac_policy.specs.private.PolicyIndex.{AreInOrder}
 use Rattle.rbac_policy.proofs.IndexLemmas.{needed_at, needed_push}
 use Rattle.rbac_policy.proofs.policy_index.needs_of.Goals as goal
 

@@ -1,6 +1,6 @@
 use Rattle.std.proofs.Common.{◌+◌, ◌≤◌, length, take, arith, sym, ap, ◌∙◌}
 use Rattle.std.proofs.lemmas.List.{take_all}
-use Rattle.rbac_policy.specs.steps.PolicyIndex.{mix, start_number}
+use Rattle.rbac_policy.specs.private.PolicyIndex.{mix, start_number}
 use Rattle.rbac_policy.proofs.IndexLemmas.{number_next}
 use Rattle.rbac_policy.proofs.policy_index.next_number.Goals as goal
 

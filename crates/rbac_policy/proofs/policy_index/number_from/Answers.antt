@@ -1,5 +1,5 @@
 use Rattle.std.proofs.Common.{get_or, ap, ◌∙◌}
-use Rattle.rbac_policy.specs.steps.PolicyIndex.{mix}
+use Rattle.rbac_policy.specs.private.PolicyIndex.{mix}
 use Rattle.rbac_policy.proofs.IndexLemmas.{number_next}
 use Rattle.rbac_policy.proofs.policy_index.number_from.Goals as goal
 

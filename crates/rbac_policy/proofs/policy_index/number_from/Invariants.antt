@@ -1,5 +1,5 @@
 use Rattle.std.proofs.Common.{◌≡◌, take}
-use Rattle.rbac_policy.specs.steps.PolicyIndex.{number_from}
+use Rattle.rbac_policy.specs.private.PolicyIndex.{number_from}
 use Rattle.rbac_policy.proofs.policy_index.number_from.Given as goal
 
 abbrev pub invariant-loop-byte : goal.invariant-loop-byte

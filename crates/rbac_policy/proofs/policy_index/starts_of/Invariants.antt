@@ -1,5 +1,5 @@
 use Rattle.std.proofs.Common.{◌≡◌, ◌≤◌, ℕ, length, get_or, take}
-use Rattle.rbac_policy.specs.steps.PolicyIndex.{start_number}
+use Rattle.rbac_policy.specs.private.PolicyIndex.{start_number}
 use Rattle.rbac_policy.proofs.policy_index.starts_of.Given as goal
 
 abbrev pub invariant-loop-count : goal.invariant-loop-count

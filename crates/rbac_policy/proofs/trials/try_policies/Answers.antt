@@ -4,7 +4,7 @@ use Rattle.std.proofs.lemmas.Result.{err_from_is_err_and}
 use Rattle.rbac_policy.specs.Named.{named_views}
 use Rattle.rbac_policy.specs.Trials.{is_match}
 use Rattle.rbac_policy.specs.declared.trials.Trial.{Trial}
-use Rattle.rbac_policy.specs.steps.Runs.{PassesBound}
+use Rattle.rbac_policy.specs.private.Runs.{PassesBound}
 use Rattle.rbac_policy.proofs.FirstRun.{this_asks}
 use Rattle.rbac_policy.proofs.Trying.{Untold, next_untold, told_match, tried_failed, untold_all}
 use Rattle.rbac_policy.proofs.trials.try_policies.Goals as goal

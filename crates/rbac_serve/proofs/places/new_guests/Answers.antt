@@ -1,5 +1,5 @@
 use Rattle.std.proofs.Common.{◌≡◌, ◌∙◌, length, ap, arith}
-use Rattle.rbac_serve.specs.steps.Guests.{free_guests}
+use Rattle.rbac_serve.specs.private.Guests.{free_guests}
 use Rattle.rbac_serve.proofs.PlaceLemmas.{free_grows}
 use Rattle.rbac_serve.proofs.places.new_guests.Goals as goal
 

@@ -1,5 +1,5 @@
 use Rattle.std.proofs.Common.{◌≡◌, ◌≤◌, ◌-◌, length}
-use Rattle.rbac_serve.specs.steps.Guests.{free_guests}
+use Rattle.rbac_serve.specs.private.Guests.{free_guests}
 use Rattle.rbac_serve.proofs.places.new_guests.Given as goal
 
 abbrev pub invariant-adding : goal.invariant-adding

@@ -4,7 +4,7 @@ use Rattle.cel_value.specs.Values.{value, value_of_key}
 use Rattle.cel_value.specs.View.{entries_view, key_view, value_view}
 use Rattle.cel_value.proofs.Views.{count_entries}
 use Rattle.cel_ops.proofs.Pairs.{entry_pair_at, keyed_past}
-use Rattle.stack_machine.specs.steps.Pairs.{pair_answers}
+use Rattle.stack_machine.specs.private.Pairs.{pair_answers}
 use Rattle.stack_machine.proofs.Walking.{count_keys}
 use Rattle.stack_machine.proofs.pairs.entry_pair.Goals as goal
 

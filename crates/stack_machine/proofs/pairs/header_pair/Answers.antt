@@ -1,6 +1,6 @@
 use Rattle.std.proofs.Common.{ap}
 use Rattle.std.specs.Option.{option_map}
-use Rattle.stack_machine.specs.steps.Pairs.{pair_answers}
+use Rattle.stack_machine.specs.private.Pairs.{pair_answers}
 use Rattle.stack_machine.proofs.Headers.{header_pair_at}
 use Rattle.stack_machine.proofs.pairs.header_pair.Goals as goal
 

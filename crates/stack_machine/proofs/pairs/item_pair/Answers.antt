@@ -5,7 +5,7 @@ use Rattle.cel_value.specs.View.{value_view, values_view}
 use Rattle.cel_value.proofs.Views.{count_items}
 use Rattle.cel_ops.specs.Arithmetic.{int_answer}
 use Rattle.cel_ops.proofs.Pairs.{item_pair_at, numbered_past}
-use Rattle.stack_machine.specs.steps.Pairs.{pair_answers}
+use Rattle.stack_machine.specs.private.Pairs.{pair_answers}
 use Rattle.stack_machine.proofs.pairs.item_pair.Goals as goal
 
 pub returns-then-index-items : goal.returns-then-index-items

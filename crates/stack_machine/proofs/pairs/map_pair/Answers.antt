@@ -4,7 +4,7 @@ use Rattle.std.specs.Prelude.{slice_get}
 use Rattle.std.specs.Option.{option_map}
 use Rattle.cel_ops.specs.Collections.{keyed}
 use Rattle.cel_value.proofs.Views.{seen_entries}
-use Rattle.stack_machine.specs.steps.Pairs.{pair_answers}
+use Rattle.stack_machine.specs.private.Pairs.{pair_answers}
 use Rattle.stack_machine.proofs.pairs.map_pair.Goals as goal
 
 pub returns-in-Entries : goal.returns-in-Entries

@@ -5,7 +5,7 @@ use Rattle.cel_value.specs.Texts.{points_of, text_view}
 use Rattle.cel_value.specs.View.{pairs_view}
 use Rattle.cel_value.proofs.Views.{count_pairs}
 use Rattle.cel_ops.proofs.Pairs.{text_pair_at, keyed_past}
-use Rattle.stack_machine.specs.steps.Pairs.{pair_answers}
+use Rattle.stack_machine.specs.private.Pairs.{pair_answers}
 use Rattle.stack_machine.proofs.Walking.{count_keys}
 use Rattle.stack_machine.proofs.pairs.text_pair.Goals as goal
 

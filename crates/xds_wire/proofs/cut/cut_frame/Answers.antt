@@ -1,6 +1,6 @@
 use Rattle.std.proofs.Common.{ℕ, ◌≡◌, ◌<◌, ◌^◌, ◌++◌, inl, inr, length, get_or, append-nil, rules, arith, refl, ap, ◌∙◌, sym}
 use Rattle.xds_wire.specs.Frames.{too_long}
-use Rattle.xds_wire.specs.steps.Pieces.{head_view}
+use Rattle.xds_wire.specs.private.Pieces.{head_view}
 use Rattle.xds_wire.proofs.HeadLemmas.{breaks_compressed, begins_head, whole_head}
 use Rattle.xds_wire.proofs.cut.cut_frame.Goals as goal
 

@@ -1,7 +1,7 @@
 use Rattle.std.proofs.Common.{◌≡◌, ◌<◌, ◌++◌, ℕ, List, length, vec_len, ap, ap₂, ◌∙◌, sym, arith}
 use Rattle.std.proofs.lemmas.List.{length-take}
 use Rattle.xds_wire.specs.Frames.{head_of, unfinished, part_of_message}
-use Rattle.xds_wire.specs.steps.Pieces.{head_view}
+use Rattle.xds_wire.specs.private.Pieces.{head_view}
 use Rattle.xds_wire.proofs.CutLemmas.{cut_of, rest_shorter}
 use Rattle.xds_wire.proofs.state.cut_frames.Goals as goal
 

@@ -1,5 +1,5 @@
 use Rattle.std.proofs.Common.{◌≡◌, ℕ, ◌<◌, List, ◌++◌, length}
-use Rattle.xds_wire.specs.steps.Pieces.{head_view}
+use Rattle.xds_wire.specs.private.Pieces.{head_view}
 use Rattle.xds_wire.proofs.CutLemmas.{Frames}
 use Rattle.xds_wire.proofs.state.cut_frames.Given as goal
 

@@ -1,7 +1,7 @@
 use Rattle.std.proofs.Common.{◌≡◌, ℕ, List, [], ◌∷◌, ◌++◌, length, ap, ap₂, set, ◌∙◌, sym, rules, arith, append_assoc, length-append}
 use Rattle.std.proofs.lemmas.List.{take-append-drop, set_at}
 use Rattle.xds_wire.specs.Frames.{Cut}
-use Rattle.xds_wire.specs.steps.Pieces.{tail_view}
+use Rattle.xds_wire.specs.private.Pieces.{tail_view}
 use Rattle.xds_wire.proofs.CutLemmas.{cut_whole_data}
 use Rattle.xds_wire.proofs.state.finish.Goals as goal
 

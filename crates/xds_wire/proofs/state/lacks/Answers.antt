@@ -1,5 +1,5 @@
 use Rattle.std.proofs.Common.{◌≡◌, ℕ, ◌≤◌, List, length, arith, rules}
-use Rattle.xds_wire.specs.steps.Pieces.{head_view}
+use Rattle.xds_wire.specs.private.Pieces.{head_view}
 use Rattle.xds_wire.proofs.Partial.{one_of_data, one_of_head, take_at_most}
 use Rattle.xds_wire.proofs.state.lacks.Goals as goal
 

@@ -1,7 +1,7 @@
 use Rattle.std.proofs.Common.{take}
 use Rattle.xds_wire.specs.View.{texts_view}
 use Rattle.xds_wire.specs.Written.{strings_fields}
-use Rattle.xds_wire.specs.steps.Writing.{Adds}
+use Rattle.xds_wire.specs.private.Writing.{Adds}
 use Rattle.xds_wire.proofs.writing.put_texts.Given as goal
 
 abbrev pub invariant-loop-text : goal.invariant-loop-text

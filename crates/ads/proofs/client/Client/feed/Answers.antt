@@ -1,7 +1,7 @@
 use Rattle.std.proofs.Common.{Some, [], ap, refl}
 use Rattle.ads.specs.Answer.{Accepted}
 use Rattle.ads.specs.Ends.{client_view, state_view}
-use Rattle.ads.specs.steps.Drafts.{draft_view}
+use Rattle.ads.specs.private.Drafts.{draft_view}
 use Rattle.ads.specs.Views.{policies_view}
 use Rattle.ads.proofs.AdmittedLemmas.{merely_all}
 use Rattle.ads.proofs.AnswerLemmas.{told_no, told_yes}

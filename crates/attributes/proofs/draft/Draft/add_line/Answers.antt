@@ -1,6 +1,6 @@
 -- The field is added, or the draft is as it was, in a longer text.
 use Rattle.std.proofs.Common.{ℕ, List}
-use Rattle.attributes.specs.steps.Parts.{Begins, part_of}
+use Rattle.attributes.specs.private.Parts.{Begins, part_of}
 use Rattle.attributes.proofs.Drafts.{draft_either, draft_more, value_either}
 use Rattle.attributes.proofs.Parts.{begins_trans}
 use Rattle.attributes.proofs.draft.Draft.add_line.Goals as goal

@@ -5,8 +5,8 @@ use Rattle.std.proofs.lemmas.List.{length-map}
 use Rattle.std.specs.FinMap.{entries}
 use Rattle.attributes.specs.Conn.{Facts, conn_view}
 use Rattle.attributes.specs.Headers.{Entry, headers_of}
-use Rattle.attributes.specs.steps.Drafts.{own_entries}
-use Rattle.attributes.specs.steps.Parts.{entries_in, entry_in, part_of}
+use Rattle.attributes.specs.private.Drafts.{own_entries}
+use Rattle.attributes.specs.private.Parts.{entries_in, entry_in, part_of}
 use Rattle.attributes.proofs.Finishing.{made, made_kept, method_at, method_there, target_at, target_there}
 use Rattle.attributes.proofs.Spots.{length_part}
 use Rattle.attributes.proofs.draft.Draft.finish.Goals as goal

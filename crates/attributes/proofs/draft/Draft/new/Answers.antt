@@ -2,8 +2,8 @@
 use Rattle.std.proofs.Common.{◌∙◌, ℕ, List, length, ap, ap₂}
 use Rattle.std.proofs.lemmas.List.Elements.{All-nil}
 use Rattle.attributes.specs.Draft.{DraftValue, first_draft}
-use Rattle.attributes.specs.steps.Drafts.{own_names}
-use Rattle.attributes.specs.steps.Parts.{Begins, IsField}
+use Rattle.attributes.specs.private.Drafts.{own_names}
+use Rattle.attributes.specs.private.Parts.{Begins, IsField}
 use Rattle.attributes.proofs.Drafts.{begins_whole}
 use Rattle.attributes.proofs.Parts.{begins_trans, is_part_kept, part_kept}
 use Rattle.attributes.proofs.draft.Draft.new.Goals as goal

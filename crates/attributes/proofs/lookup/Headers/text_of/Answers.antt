@@ -2,7 +2,7 @@
 use Rattle.std.proofs.Common.{◌<◌, ◌∙◌, ℕ, List, length, refl, arith}
 use Rattle.std.proofs.lemmas.List.{length-map}
 use Rattle.attributes.specs.declared.headers.Field.{Field}
-use Rattle.attributes.specs.steps.Parts.{IsSpot, entries_in, entry_in}
+use Rattle.attributes.specs.private.Parts.{IsSpot, entries_in, entry_in}
 use Rattle.attributes.proofs.Spots.{field_at, spot_part}
 use Rattle.attributes.proofs.lookup.Headers.text_of.Goals as goal
 

@@ -1,5 +1,5 @@
 use Rattle.std.proofs.Common.{◌≡◌, sym, ◌∙◌, true, refl}
-use Rattle.cel_value.specs.steps.EqualityLaws.{type_eq_decides}
+use Rattle.cel_value.specs.private.EqualityLaws.{type_eq_decides}
 use Rattle.cel_value.specs.Types.{type_eq, type_view}
 use Rattle.cel_types.specs.TypingFaults.{another_type}
 use Rattle.cel_check.proofs.checker.entries.require_said.Goals as goal

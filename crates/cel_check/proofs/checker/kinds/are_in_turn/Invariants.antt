@@ -1,8 +1,8 @@
 use Rattle.std.proofs.Common.{◌≡◌, drop}
 use Rattle.cel_value.specs.Types.{type_view}
 use Rattle.cel_types.specs.Elaborated.{kinds}
-use Rattle.cel_types.specs.steps.ExprViews.{exprs_view}
-use Rattle.cel_check.specs.steps.Kinds.{in_turn}
+use Rattle.cel_types.specs.private.ExprViews.{exprs_view}
+use Rattle.cel_check.specs.private.Kinds.{in_turn}
 use Rattle.cel_check.proofs.checker.kinds.are_in_turn.Given as goal
 
 -- those that are left are in turn where all are

@@ -1,5 +1,5 @@
 use Rattle.std.proofs.Common.{◌≡◌, drop, nat_lt, suc}
-use Rattle.cel_tree.specs.steps.TreeViews.{tree_entries_view, trees_view}
+use Rattle.cel_tree.specs.private.TreeViews.{tree_entries_view, trees_view}
 use Rattle.cel_types.specs.Typing.{locals_in_each, locals_in_entries}
 use Rattle.cel_check.proofs.checker.locals.+locals.Given as goal
 

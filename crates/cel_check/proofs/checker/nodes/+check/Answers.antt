@@ -8,7 +8,7 @@ use Rattle.std.specs.FinMap.{get}
 use Rattle.cel_tree.specs.Tree.{call, ident, list_literal, map_literal, select}
 use Rattle.cel_types.specs.TypingFaults.{NodeTypeFault}
 use Rattle.cel_tree.specs.View.{checked_view, loop_of, target_of, tree_view}
-use Rattle.cel_tree.specs.steps.TreeViews.{boxed_view, loop_view, tree_entries_view, trees_view}
+use Rattle.cel_tree.specs.private.TreeViews.{boxed_view, loop_view, tree_entries_view, trees_view}
 use Rattle.cel_value.specs.Texts.{text_view}
 use Rattle.cel_value.specs.Types.{ValueType, map_type, type_view}
 use Rattle.cel_value.specs.declared.cel_type.KeyType.TheVariants as keys
@@ -16,13 +16,13 @@ use Rattle.proto_wire.specs.declared.refusal.Refusal.TheVariants.{NoOverload}
 use Rattle.cel_types.specs.Names.{turn_scope}
 use Rattle.cel_types.specs.Typing.{locals_in, maps_of}
 use Rattle.cel_types.specs.View.{expr_view}
-use Rattle.cel_types.specs.steps.ExprViews.{exprs_view}
+use Rattle.cel_types.specs.private.ExprViews.{exprs_view}
 use Rattle.cel_types.specs.Elaborated.{kind}
 use Rattle.cel_tree.specs.Places.{PlacedOr}
 use Rattle.cel_check.specs.Places.{TypeFaultAt, id_of}
-use Rattle.cel_check.specs.steps.Checks.{AreTwo, BodyFault, EitherFault, IsBody, IsFound, IsTurn, PlacedInside, StepFault, TurnFault}
-use Rattle.cel_check.specs.steps.Kinds.{each_view}
-use Rattle.cel_check.specs.steps.Scopes.{scope_view}
+use Rattle.cel_check.specs.private.Checks.{AreTwo, BodyFault, EitherFault, IsBody, IsFound, IsTurn, PlacedInside, StepFault, TurnFault}
+use Rattle.cel_check.specs.private.Kinds.{each_view}
+use Rattle.cel_check.specs.private.Scopes.{scope_view}
 use Rattle.cel_types.proofs.TreeViews.{tree_call, tree_comprehension, tree_ident, tree_map}
 use Rattle.cel_check.proofs.CheckSteps.{target_some, view_list, view_map}
 use Rattle.cel_check.proofs.Checking.{attribute_bad, body_bad, body_found, call_bad, call_found, each_more, each_within, ends_bad, entry_within, entry_wrong, field_bad, field_found, list_bad, list_found, map_bad, map_found, names_bad, node_found, pair_at, pairs_more, some_at, turn_is, types_of}

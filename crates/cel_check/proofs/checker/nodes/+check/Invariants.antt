@@ -1,12 +1,12 @@
 use Rattle.std.proofs.Common.{map, take}
 use Rattle.cel_tree.specs.View.{checked_view}
-use Rattle.cel_tree.specs.steps.TreeViews.{tree_entries_view, trees_view}
+use Rattle.cel_tree.specs.private.TreeViews.{tree_entries_view, trees_view}
 use Rattle.cel_types.specs.Elaborated.{ElaboratesPairs}
 use Rattle.cel_types.specs.Typing.{PairsAgree, maps_of}
 use Rattle.cel_types.specs.View.{expr_view}
-use Rattle.cel_types.specs.steps.ExprViews.{exprs_view}
-use Rattle.cel_check.specs.steps.Checks.{AreFound}
-use Rattle.cel_check.specs.steps.Scopes.{scope_view}
+use Rattle.cel_types.specs.private.ExprViews.{exprs_view}
+use Rattle.cel_check.specs.private.Checks.{AreFound}
+use Rattle.cel_check.specs.private.Scopes.{scope_view}
 use Rattle.cel_check.proofs.checker.nodes.+check.Given as goal
 
 -- the expressions so far are found

@@ -2,7 +2,7 @@ use Rattle.std.proofs.Common.{◌≡◌, ◌<◌, length, drop, false, true, w64
 use Rattle.std.specs.FinMap.{put}
 use Rattle.std.specs.List.{insert}
 use Rattle.std.specs.Ordering.{int_cmp}
-use Rattle.cel_tree.specs.steps.Places.{IsPlace, starts_with}
+use Rattle.cel_tree.specs.private.Places.{IsPlace, starts_with}
 use Rattle.cel_tree.proofs.IdPlaces.{put_new, put_old, put_sorted}
 use Rattle.cel_tree.proofs.id_map.IdMap.insert.Goals as goal
 

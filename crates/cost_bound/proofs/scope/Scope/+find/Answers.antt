@@ -2,8 +2,8 @@ use Rattle.std.proofs.Common.{ap, sym, ◌∙◌}
 use Rattle.std.proofs.lemmas.Result.{IfOk-weaker}
 use Rattle.cel_types.specs.TypedMeaning.{local_at}
 use Rattle.cel_costs.specs.Costs.{known}
-use Rattle.cost_bound.specs.steps.ScopeView.{locals_view, sizes_among}
-use Rattle.cost_bound.specs.steps.SizeView.{size_view}
+use Rattle.cost_bound.specs.private.ScopeView.{locals_view, sizes_among}
+use Rattle.cost_bound.specs.private.SizeView.{size_view}
 use Rattle.cost_bound.proofs.Locals.{local_further, local_there, view_local}
 use Rattle.cost_bound.proofs.scope.Scope.+find.Goals as goal
 

@@ -1,5 +1,5 @@
 use Rattle.std.proofs.Common.{◌≡◌, ◌++◌, refl, ap, ◌∙◌, arith}
-use Rattle.cost_bound.specs.steps.Formulas.{lengths_at}
+use Rattle.cost_bound.specs.private.Formulas.{lengths_at}
 use Rattle.cost_bound.proofs.Terms.{lengths_append}
 use Rattle.cost_bound.proofs.term.Term.plus.Goals as goal
 

@@ -1,7 +1,7 @@
 use Rattle.std.proofs.Common.{sym}
 use Rattle.attributes.specs.Headers.{lines_view}
-use Rattle.head_map.specs.steps.Client.{client_view}
-use Rattle.head_map.specs.steps.Told.{claim_of}
+use Rattle.head_map.specs.private.Client.{client_view}
+use Rattle.head_map.specs.private.Told.{claim_of}
 use Rattle.head_map.proofs.Telling.{told_more}
 use Rattle.head_map.proofs.client.Client.put_all.Goals as goal
 

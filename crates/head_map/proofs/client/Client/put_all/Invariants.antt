@@ -1,6 +1,6 @@
 use Rattle.std.proofs.Common.{take}
 use Rattle.attributes.specs.Headers.{lines_view}
-use Rattle.head_map.specs.steps.Client.{IsToldBy, client_view}
+use Rattle.head_map.specs.private.Client.{IsToldBy, client_view}
 use Rattle.head_map.proofs.client.Client.put_all.Given as goal
 
 abbrev pub invariant-loop-one : goal.invariant-loop-one

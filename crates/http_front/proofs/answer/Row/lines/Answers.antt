@@ -2,7 +2,7 @@ use Rattle.std.proofs.Common.{◌≡◌, ◌∙◌, List, ℕ, ◌++◌, codes, 
 use Rattle.std.specs.String.{string_bytes}
 use Rattle.httparse.specs.Ascii.{crlf_bytes}
 use Rattle.http_front.specs.Answer.{matches_text}
-use Rattle.http_front.specs.steps.Rows.{row_view}
+use Rattle.http_front.specs.private.Rows.{row_view}
 use Rattle.http_front.proofs.Answering.{line_after}
 use Rattle.http_front.proofs.answer.Row.lines.Goals as goal
 

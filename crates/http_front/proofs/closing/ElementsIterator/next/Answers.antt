@@ -1,7 +1,7 @@
 use Rattle.std.proofs.Common.{◌≡◌, ◌+◌, ◌-◌, [], ◌∷◌, length, take, drop, rules, arith, sym, ap, ◌∙◌, add-one}
 use Rattle.std.proofs.lemmas.List.{take_rest}
 use Rattle.http_front.specs.Closing.{elements}
-use Rattle.http_front.specs.steps.Elements.{elements_left, elements_of_rest}
+use Rattle.http_front.specs.private.Elements.{elements_left, elements_of_rest}
 use Rattle.http_front.proofs.Elements.{elements_at, elements_whole}
 use Rattle.http_front.proofs.closing.ElementsIterator.next.Goals.{After-trim_ows, After-trim_ows-in-None}
 use Rattle.http_front.proofs.closing.ElementsIterator.next.Goals as goal

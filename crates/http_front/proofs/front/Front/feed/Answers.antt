@@ -1,6 +1,6 @@
 use Rattle.std.proofs.Common.{ap}
 use Rattle.attributes.specs.Conn.{conn_view}
-use Rattle.http_front.specs.steps.Turns.{front_of}
+use Rattle.http_front.specs.private.Turns.{front_of}
 use Rattle.http_front.proofs.Turning.{all_behind, kept_fed}
 use Rattle.http_front.proofs.front.Front.feed.Goals as goal
 

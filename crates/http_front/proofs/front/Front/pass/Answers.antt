@@ -1,6 +1,6 @@
 use Rattle.std.proofs.Common.{◌≡◌, ◌≤◌, ◌-◌, ap, length, min, rules}
 use Rattle.attributes.specs.Conn.{conn_view}
-use Rattle.http_front.specs.steps.Turns.{front_of}
+use Rattle.http_front.specs.private.Turns.{front_of}
 use Rattle.http_front.proofs.Turning.{kept_behind}
 use Rattle.http_front.proofs.front.Front.pass.Goals as goal
 

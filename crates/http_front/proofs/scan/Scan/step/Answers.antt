@@ -1,6 +1,6 @@
 use Rattle.std.proofs.Common.{take}
 use Rattle.http_front.specs.declared.scan.Scan.TheVariants.{Target}
-use Rattle.http_front.specs.steps.Scans.{IsSeen}
+use Rattle.http_front.specs.private.Scans.{IsSeen}
 use Rattle.http_front.proofs.ScanLemmas.{byte_at, drop_of_take, target_within}
 use Rattle.http_front.proofs.scan.Scan.step.Goals as goal
 

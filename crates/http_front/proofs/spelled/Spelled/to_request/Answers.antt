@@ -3,8 +3,8 @@ use Rattle.std.proofs.lemmas.Result.{IfOk-weaker}
 use Rattle.attributes.specs.Conn.{conn_view}
 use Rattle.attributes.specs.Request.{IsTextEntry}
 use Rattle.http_front.specs.Parts.{field_view}
-use Rattle.http_front.specs.steps.Parsed.{HasAsciiName}
-use Rattle.http_front.specs.steps.Parts.{head_in}
+use Rattle.http_front.specs.private.Parsed.{HasAsciiName}
+use Rattle.http_front.specs.private.Parts.{head_in}
 use Rattle.http_front.proofs.FieldNames.{names_are_ascii}
 use Rattle.http_front.proofs.SpelledAsks.{back_has, front_has, spelled_request}
 use Rattle.http_front.proofs.spelled.Spelled.to_request.Goals as goal

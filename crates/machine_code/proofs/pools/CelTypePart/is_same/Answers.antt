@@ -1,6 +1,6 @@
 -- Equal types are the same.
 use Rattle.std.proofs.Common.{sym, ◌∙◌}
-use Rattle.cel_value.specs.steps.EqualityLaws.{type_eq_decides}
+use Rattle.cel_value.specs.private.EqualityLaws.{type_eq_decides}
 use Rattle.machine_code.proofs.pools.CelTypePart.is_same.Goals as goal
 
 pub returns : goal.returns

@@ -1,7 +1,7 @@
 use Rattle.std.proofs.Common.{◌≡◌, List, length, Some, None, refl, sym, ap, ◌∙◌, slice_get}
 use Rattle.std.proofs.lemmas.Option.{slice_get_past, slice_get_read}
 use Rattle.rbac_match.specs.declared.leaves.Leaf.{Leaf}
-use Rattle.rbac_match.specs.steps.Leaves.{passes_at}
+use Rattle.rbac_match.specs.private.Leaves.{passes_at}
 use Rattle.rbac_match.proofs.LeafLists.{good_found, test_found, test_missing}
 use Rattle.rbac_match.proofs.leaves.Leaves.passes.Goals as goal
 

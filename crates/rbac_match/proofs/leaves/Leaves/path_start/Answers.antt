@@ -1,7 +1,7 @@
 use Rattle.std.proofs.Common.{◌≡◌, List, length, Some, refl, sym, ap, ◌∙◌, slice_get}
 use Rattle.std.proofs.lemmas.Option.{slice_get_read}
 use Rattle.rbac_match.specs.declared.leaves.Leaf.{Leaf}
-use Rattle.rbac_match.specs.steps.Leaves.{passes_at}
+use Rattle.rbac_match.specs.private.Leaves.{passes_at}
 use Rattle.rbac_match.proofs.LeafLists.{good_found, test_found}
 use Rattle.rbac_match.proofs.leaves.Leaves.path_start.Goals as goal
 

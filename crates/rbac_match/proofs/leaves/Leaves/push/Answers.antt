@@ -1,7 +1,7 @@
 use Rattle.std.proofs.Common.{◌∷◌, ◌++◌, [], List, ap₂, ◌∙◌}
 use Rattle.std.proofs.lemmas.List.{map-append}
 use Rattle.rbac_match.specs.declared.matcher.Matcher.{Matcher}
-use Rattle.rbac_match.specs.steps.Leaves.{leaf_in}
+use Rattle.rbac_match.specs.private.Leaves.{leaf_in}
 use Rattle.rbac_match.proofs.LeafLists.{are_good_stay, leaves_stay, are_good_push}
 use Rattle.rbac_match.proofs.Exits.{at_err}
 use Rattle.rbac_match.proofs.leaves.Leaves.push.Goals as goal

@@ -3,7 +3,7 @@ use Rattle.std.proofs.lemmas.List.{length-append, map-append}
 use Rattle.rbac_match.specs.Tokens.{Token}
 use Rattle.rbac_match.specs.declared.list.Node.TheVariants.{Leaf}
 use Rattle.rbac_match.specs.declared.matcher.Matcher.{Matcher}
-use Rattle.rbac_match.specs.steps.Nodes.{token_in, test_at}
+use Rattle.rbac_match.specs.private.Nodes.{token_in, test_at}
 use Rattle.rbac_match.proofs.NodeLists.{has_more, has_push, tokens_stay, test_added}
 use Rattle.rbac_match.proofs.list.RuleList.add_leaf.Goals as goal
 

@@ -1,6 +1,6 @@
 use Rattle.std.proofs.Common.{◌≡◌, ◌<◌, ◌-◌, length, refl, ap, ◌∙◌}
 use Rattle.std.proofs.lemmas.List.{length-map}
-use Rattle.rbac_match.specs.steps.Nodes.{token_in}
+use Rattle.rbac_match.specs.private.Nodes.{token_in}
 use Rattle.rbac_match.proofs.NodeLists.{has_set, tokens_join}
 use Rattle.rbac_match.proofs.list.RuleList.join.Goals as goal
 

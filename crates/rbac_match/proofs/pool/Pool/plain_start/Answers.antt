@@ -1,5 +1,5 @@
 use Rattle.std.proofs.Common.{inl, inr}
-use Rattle.rbac_match.specs.steps.Leaves.{part_of}
+use Rattle.rbac_match.specs.private.Leaves.{part_of}
 use Rattle.rbac_match.proofs.NeedLemmas.{plain_begins}
 use Rattle.rbac_match.proofs.pool.Pool.plain_start.Goals as goal
 

@@ -2,8 +2,8 @@ use Rattle.std.proofs.Common.{◌≡◌, false, true, inl, inr, is_some, map, re
 use Rattle.std.proofs.lemmas.Result.{err_from_is_err_and}
 use Rattle.rbac_policy.specs.Admitted.{filter_view, limits_view}
 use Rattle.rbac_policy.specs.Named.{policy_view}
-use Rattle.rbac_policy.specs.steps.Action.{allows}
-use Rattle.rbac_policy.specs.steps.Runs.{AnyProgram, IsFirst, PassesBound}
+use Rattle.rbac_policy.specs.private.Action.{allows}
+use Rattle.rbac_policy.specs.private.Runs.{AnyProgram, IsFirst, PassesBound}
 use Rattle.rbac_policy.proofs.Deciding.{asked_is_told, asking, found_verdict, have_none, none_passes}
 use Rattle.rbac_policy.proofs.FirstRun.{memory_is_other}
 use Rattle.rbac_policy.proofs.filter.Admitted.decide.Goals as goal

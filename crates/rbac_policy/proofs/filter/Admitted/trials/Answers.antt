@@ -1,7 +1,7 @@
 use Rattle.std.proofs.Common.{◌≡◌, inl, inr, refl}
 use Rattle.std.proofs.lemmas.Result.{MatchResult-weaker}
 use Rattle.rbac_policy.specs.Admitted.{filter_view, limits_view}
-use Rattle.rbac_policy.specs.steps.Runs.{PassesBound}
+use Rattle.rbac_policy.specs.private.Runs.{PassesBound}
 use Rattle.rbac_policy.proofs.Deciding.{asked_is_told, asking, none_passes}
 use Rattle.rbac_policy.proofs.Trying.{filter_tried, never_out, only_errors, trials_first}
 use Rattle.rbac_policy.proofs.filter.Admitted.trials.Goals as goal

@@ -1,7 +1,7 @@
 use Rattle.std.proofs.Common.{◌≡◌, take, ap, ◌∙◌}
 use Rattle.std.specs.String.{string_bytes}
 use Rattle.attributes.specs.Attributes.{url_path_of}
-use Rattle.rbac_policy.specs.steps.PolicyIndex.{start_number, value_number, value_of}
+use Rattle.rbac_policy.specs.private.PolicyIndex.{start_number, value_number, value_of}
 use Rattle.rbac_policy.proofs.policy_index.PolicyIndex.request_keys.Goals as goal
 
 pub returns : goal.returns

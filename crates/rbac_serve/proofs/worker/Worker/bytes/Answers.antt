@@ -2,7 +2,7 @@ use Rattle.std.proofs.Common.{◌≡◌, set, ap, ◌∙◌, arith}
 use Rattle.std.proofs.lemmas.Result.{err_from_is_err_and}
 use Rattle.ads.specs.Ends.{client_view}
 use Rattle.rbac_serve.specs.declared.guest.Guest.{Guest}
-use Rattle.rbac_serve.specs.steps.Guests.{free_guest}
+use Rattle.rbac_serve.specs.private.Guests.{free_guest}
 use Rattle.rbac_serve.proofs.CallLemmas.{bytes_done, bytes_past, bytes_reached, close_reached, put_fits}
 use Rattle.rbac_serve.proofs.PlaceLemmas.{fits_at, fits_put_is, state_put}
 use Rattle.rbac_serve.proofs.worker.Worker.bytes.Goals as goal

@@ -1,7 +1,7 @@
 use Rattle.std.proofs.Common.{◌≡◌, set, ap, ◌∙◌}
 use Rattle.ads.specs.Ends.{client_view}
 use Rattle.rbac_serve.specs.declared.guest.Guest.{Guest}
-use Rattle.rbac_serve.specs.steps.Guests.{free_guest}
+use Rattle.rbac_serve.specs.private.Guests.{free_guest}
 use Rattle.rbac_serve.proofs.CallLemmas.{close_done, close_reached}
 use Rattle.rbac_serve.proofs.PlaceLemmas.{fits_put_is}
 use Rattle.rbac_serve.proofs.worker.Worker.close.Goals as goal

@@ -3,7 +3,7 @@ use Rattle.ads.specs.Ends.{client_view}
 use Rattle.rbac_serve.specs.Turns.{answer_sent}
 use Rattle.rbac_serve.specs.Tables.{state_of}
 use Rattle.rbac_serve.specs.declared.guest.Guest.{Guest}
-use Rattle.rbac_serve.specs.steps.Guests.{free_guest}
+use Rattle.rbac_serve.specs.private.Guests.{free_guest}
 use Rattle.rbac_serve.proofs.CallLemmas.{left_there, nothing_sent, put_fits, send_done, send_past}
 use Rattle.rbac_serve.proofs.PlaceLemmas.{fits_at, waits_past}
 use Rattle.rbac_serve.proofs.Turning.{reached_more}

@@ -1,3 +1,0 @@
--- The results of single steps of the code. Only clauses of private functions cite these
--- definitions.
-pub mod ExprViews

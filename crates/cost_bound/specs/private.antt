@@ -1,0 +1,7 @@
+-- Definitions that only clauses of private functions and proofs use.
+pub mod Numbers
+pub mod SizeView
+pub mod ScopeView
+pub mod Formulas
+pub mod Memos
+pub mod Measuring

@@ -1,8 +1,0 @@
--- Definitions that only clauses of private functions and proofs cite.
-pub mod Places
-pub mod Holding
-pub mod Branches
-pub mod Packing
-pub mod Lent
-pub mod Beside
-pub mod Words

@@ -1,0 +1,3 @@
+-- Definitions for private functions and for other crates. No public contract of this crate uses them.
+pub mod LineReading
+pub mod Given

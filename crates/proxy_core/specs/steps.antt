@@ -1,3 +1,0 @@
--- Definitions that private clauses and proofs of this crate use (this project's own).
-pub mod Fronts
-pub mod Deciding

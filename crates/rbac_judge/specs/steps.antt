@@ -1,5 +1,0 @@
--- The effects of single steps of the code. Only clauses of private functions, and of other crates, use these definitions.
-pub mod Reading
-pub mod Judged
-pub mod Printed
-pub mod Batching

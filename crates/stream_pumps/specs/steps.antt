@@ -1,2 +1,0 @@
--- The effects of single steps of the code. Only clauses of private functions use these definitions.
-pub mod Pumping
