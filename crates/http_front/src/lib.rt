@@ -4,6 +4,7 @@
 mod answer;
 mod ask;
 mod body;
+mod by_parts;
 mod closing;
 mod fault;
 mod fields;
@@ -23,7 +24,8 @@ mod turn;
 
 pub use answer::{Case, Reply};
 pub use ask::Ask;
+pub use by_parts::request_of_parts;
 pub use fault::{HeadFault, HeadPart};
 pub use front::Front;
-pub use parts::{HeadParts, Line, request_of_parts};
+pub use parts::{HeadParts, Line};
 pub use read::{HeadAsk, read_head};

@@ -1,20 +1,10 @@
-//! Requests by their parts, as a proxy has them (RFC 9112, sections 3 and 5; RFC 9113, section 8.3).
-ghost use Rattle.std.specs.Prelude.{◌≡◌, ◌<◌, ◌↔◌, IfErr, IfOk, IsOk, IsTrue, IsUtf8, length};
-ghost use Rattle.attributes.specs.Conn.{conn_view};
-ghost use Rattle.attributes.specs.Limits.{InLimits};
+//! The parts of a request, as a proxy has them (RFC 9112, sections 3 and 5; RFC 9113, section 8.3).
+ghost use Rattle.std.specs.Prelude.{◌≡◌, ◌↔◌, IsTrue, IsUtf8};
 ghost use Rattle.httparse.specs.Grammar.{trim_ows};
-ghost use Rattle.http_front.specs.declared.fault.HeadFault.TheVariants.{OutsideLimits};
-ghost use Rattle.http_front.specs.declared.fault.HeadPart.{HeadPart};
-ghost use Rattle.http_front.specs.Head.{head_room};
-ghost use Rattle.http_front.specs.Parts.{IsMalformedIn, PartsAsk, PartsFault, field_view, is_authority, is_host_of, line_name, parts_text, parts_view, spelled_head};
+ghost use Rattle.http_front.specs.Parts.{field_view, is_authority, is_host_of, line_name};
 
 use crate::closing::trim_ows;
-use crate::fault::HeadFault;
-use crate::spelled::Spelled;
-use attributes::{Conn, Limits, Request};
-use std::alloc::{AllocError, Global};
 use std::str;
-use std::sync::Arc;
 
 /// A field: its name in any case, and its value. Its layout is C's, so that a list of fields from C is not copied.
 #[repr(C)]
@@ -37,49 +27,6 @@ pub struct HeadParts<'a> {
     pub is_http11: bool,
     /// The fields in order, with the host as `host` or `:authority` and no other pseudo-header.
     pub lines: &'a [Line<'a>],
-}
-
-/// The request of these parts on the connection `conn`, or its fault: what the head that they spell asks for. Their
-/// faults have the statuses 400, 431 and 501 of a head. If there are several faults, gives one of them.
-///
-/// `:authority` is a Host, and a Host of the same value beside it counts once. So two hosts are a fault, and in
-/// HTTP/1.1 none is. A part is malformed if a head cannot have it, such as a value with a line end.
-pub fn request_of_parts(
-    alloc: Global,
-    limits: &Limits,
-    conn: Conn,
-    parts: &HeadParts<'_>,
-) -> Result<Result<Request, HeadFault>, AllocError>
-    ensures request { IfOk result (λ found.
-        IfOk found (PartsAsk (parts_view parts.now) limits.now (conn_view conn))) }
-    ensures fault { IfOk result (λ found.
-        IfErr found (PartsFault (parts_view parts.now) limits.now (conn_view conn))) }
-    ensures malformed { (part : HeadPart) → IsMalformedIn (spelled_head (parts_view parts.now)) part → IsOk result }
-    ensures long { head_room < length (parts_text (parts_view parts.now)) → IsOk result }
-{
-    let head = Spelled::of(parts);
-    let size = match head.size() {
-        Ok(size) => size,
-        Err(fault) => return Ok(Err(fault)),
-    };
-    if let Some(fault) = head.refusal(limits) {
-        return Ok(Err(fault));
-    }
-    let request = head.to_request(alloc, size, Arc::new(alloc, conn)?)?;
-    Ok(within(limits, request))
-}
-
-/// The request, or the fault that it is outside the limits.
-#[inline(always)]
-fn within(limits: &Limits, request: Request) -> Result<Request, HeadFault>
-    ensures found { IfOk result (λ r. (r ≡ request) × InLimits request limits.now) }
-    ensures fault { IfErr result (λ fault. (fault ≡ OutsideLimits) × ¬ (InLimits request limits.now)) }
-{
-    if limits.fits(&request) {
-        Ok(request)
-    } else {
-        Err(HeadFault::OutsideLimits)
-    }
 }
 
 impl<'a> Line<'a> {

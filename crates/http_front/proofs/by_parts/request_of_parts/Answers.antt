@@ -7,7 +7,7 @@ use Rattle.http_front.specs.Parts.{parts_view}
 use Rattle.http_front.specs.private.Parts.{head_in}
 use Rattle.http_front.proofs.SpelledAsks.{parts_asked, parts_outside, parts_refused}
 use Rattle.http_front.proofs.Spelling.{spelling_fault}
-use Rattle.http_front.proofs.parts.request_of_parts.Goals as goal
+use Rattle.http_front.proofs.by_parts.request_of_parts.Goals as goal
 
 pub returns-in-Err-clause-fault : goal.returns-in-Err-clause-fault
 returns-in-Err-clause-fault c =
