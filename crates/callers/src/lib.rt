@@ -15,4 +15,4 @@ pub use condition::{holds, prepare};
 pub use decide::{Undecided, lets_through};
 pub use frames::messages_in;
 pub use heads::take_asks;
-pub use updates::take_updates;
+pub use updates::{Taken, take_updates};
