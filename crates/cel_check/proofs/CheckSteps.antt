@@ -22,7 +22,7 @@ use Rattle.cel_value.specs.Types.{ValueType, type_eq, type_view}
 use Rattle.cel_value.specs.declared.cel_type.CelType.{CelType}
 use Rattle.cel_types.specs.Elaborated.{kind, kinds, typed_call, typed_list, typed_map}
 use Rattle.cel_types.specs.Names.{local}
-use Rattle.cel_types.specs.Typing.{IsMap, Kinds, TypeGiven, has_target, locals_in, locals_in_each, locals_in_entries, name_type}
+use Rattle.cel_types.specs.Typing.{IsMap, Kinds, has_target, locals_in, locals_in_each, locals_in_entries, name_type}
 use Rattle.cel_types.specs.View.{expr_view, loop_of}
 use Rattle.cel_types.specs.private.ExprViews.{exprs_view, parts_view}
 use Rattle.cel_check.specs.declared.checker.names.Name.{Name}

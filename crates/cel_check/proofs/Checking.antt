@@ -14,9 +14,10 @@ use Rattle.cel_value.specs.declared.cel_type.CelType.{CelType}
 use Rattle.cel_value.specs.declared.cel_type.KeyType.TheVariants as keys
 use Rattle.cel_types.specs.Elaborated.{ElaboratesEach, ElaboratesPairs, ElaboratesTarget, TypedTree, TypedTrees, kind, kinds, no_typed, typed, typed_list, typed_loop, typed_map}
 use Rattle.cel_types.specs.Names.{bound, joined_name, root_of, turn_scope, variables_of}
-use Rattle.cel_types.specs.Typing.{EachAgrees, EntriesAgree, EntryAgrees, ListRule, MapRule, IsOver, Kinds, Maps, NamesDiffer, PairsAgree, TargetAgrees, TypeAgrees, Types, TypesAll, TypesEach, TypesPairs, TypesTarget, has_target, locals_in, locals_in_each, locals_in_entries}
+use Rattle.cel_types.specs.Typing.{ListRule, MapRule, IsOver, Kinds, Maps, Types, TypesAll, TypesEach, TypesPairs, TypesTarget, has_target, locals_in, locals_in_each, locals_in_entries}
 use Rattle.cel_types.specs.TypingFaults.{CallsFault, ElementsFault, NodeTypeFault, ItemTypes, KeyTypes, PairsFault, SelectFault, SomeTypes}
 use Rattle.cel_types.specs.TypingFaults.{unsupported_kind, another_type, no_element_name, no_accumulator_name, one_name, one_variable, second_accumulator, no_elements, no_condition, no_step}
+use Rattle.cel_types.specs.private.Agreeing.{EachAgrees, EntriesAgree, EntryAgrees, NamesDiffer, PairsAgree, TargetAgrees, TypeAgrees}
 use Rattle.cel_types.specs.View.{expr_view, typed_of}
 use Rattle.cel_types.specs.private.ExprViews.{exprs_view}
 use Rattle.cel_check.specs.Places.{OwnFault, PairFaultAt, SomeFaultAt, TypeFaultAt, id_of}

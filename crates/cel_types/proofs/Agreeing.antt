@@ -9,9 +9,10 @@ use Rattle.cel_value.specs.declared.cel_type.KeyType.TheVariants as keys
 use Rattle.cel_tree.specs.Checked.{CelReference, CelTypeEntry, of_type, dyn_type, unsupported_type}
 use Rattle.cel_tree.specs.Tree.{CelTree, constant, ident, select, call, list_literal, map_literal, comprehension, CelTarget, no_target, target, CelTrees, no_trees, tree, CelTreeEntries, no_tree_entries, tree_entry}
 use Rattle.cel_types.specs.Names.{joined_name, root_of, turn_scope, variables_of}
-use Rattle.cel_types.specs.Typing.{EachAgrees, EntriesAgree, EntryAgrees, IsOver, Kinds, ListRule, MapRule, Maps, NameAgrees, PairsAgree, SelectAgrees, SelectRule, TargetAgrees, Types, TypesAll, TypesEach, TypesPairs, TypesTarget}
+use Rattle.cel_types.specs.Typing.{IsOver, Kinds, ListRule, MapRule, Maps, SelectRule, Types, TypesAll, TypesEach, TypesPairs, TypesTarget}
 use Rattle.cel_types.specs.TypingFaults.{ItemTypes, KeyTypes, SomeTypes, ElementsFault, NodeTypeFault, IdentFault, ListFault, MapsFault, PairFault, PairsFault, SelectFault, SomeFault, TargetFault, TypeFault, CallsFault}
 use Rattle.cel_types.specs.TypingFaults.{unsupported_kind, another_type, in_range, in_init, in_turn, in_result}
+use Rattle.cel_types.specs.private.Agreeing.{EachAgrees, EntriesAgree, EntryAgrees, NameAgrees, PairsAgree, SelectAgrees, TargetAgrees}
 use Rattle.cel_types.proofs.OneType.{OneAtMost, one_type, over_one}
 use Rattle.cel_types.proofs.Total.{ref_decided, same_type, type_total, typed_no_root}
 

@@ -12,10 +12,11 @@ use Rattle.cel_overload.proofs.OneOverload.{call_disjoint}
 use Rattle.cel_ops.specs.Attributes.{attribute_type}
 use Rattle.cel_types.specs.Attributes.{attribute_named}
 use Rattle.cel_types.specs.Names.{joined_name, root_of, turn_scope, variables_of}
-use Rattle.cel_types.specs.Typing.{CallRule, EachAgrees, EntriesAgree, EntryAgrees, IdentRule, IsList, IsMap, IsOver, Kinds, ListRule, LoopRule, MapRule, Maps, NameAgrees, PairsAgree, RefAgrees, SelectAgrees, SelectRule, TargetAgrees, TypeAgrees, TypeGiven, Types, TypesAll, TypesEach, TypesPairs, TypesTarget, has_target}
-use Rattle.cel_types.specs.TypingFaults.{AreGot, CallsFault, ElementsFault, EmptyFault, NodeTypeFault, IdentFault, ItemTypes, KeyTypes, ListFault, LoopFault, MapsFault, PairFault, PairsFault, SaysNothing, SelectFault, SomeFault, SomeTypes, TargetFault, TypeFault}
-use Rattle.cel_types.specs.TypingFaults.{unsupported_kind, another_type, unstated, of_another_kind, no_element_name, no_accumulator_name, one_name, one_variable, second_accumulator, no_elements, no_condition, no_step, in_range, in_init, in_turn, in_result}
-use Rattle.cel_types.proofs.OneType.{OneAtMost, one_each, one_target, one_type, over_one}
+use Rattle.cel_types.specs.Typing.{IsList, IsMap, IsOver, Kinds, ListRule, LoopRule, MapRule, Maps, RefAgrees, SelectRule, Types, TypesAll, TypesEach, TypesPairs, TypesTarget, has_target}
+use Rattle.cel_types.specs.TypingFaults.{AreGot, CallsFault, ElementsFault, EmptyFault, NodeTypeFault, IdentFault, ItemTypes, KeyTypes, ListFault, LoopFault, MapsFault, PairFault, PairsFault, SelectFault, SomeFault, SomeTypes, TargetFault, TypeFault}
+use Rattle.cel_types.specs.TypingFaults.{unsupported_kind, another_type, unstated, of_another_kind, in_names, no_elements, no_condition, no_step, in_range, in_init, in_turn, in_result}
+use Rattle.cel_types.specs.private.Agreeing.{CallRule, EachAgrees, EntriesAgree, EntryAgrees, IdentRule, NameAgrees, PairsAgree, SelectAgrees, TargetAgrees, TypeAgrees}
+use Rattle.cel_types.proofs.OneType.{OneAtMost, given_one, one_each, one_target, one_type, over_one}
 
 entry_apart : (entry : Option CelTypeEntry) (Has : ValueType → Type 0) (t : ValueType)
     (e : Refusal) → Has t → EntryAgrees entry Has → NodeTypeFault entry Has e → ⊥
@@ -24,17 +25,12 @@ entry_apart entry Has t e has agrees (unsupported_kind is _) =
 entry_apart entry Has t e has agrees (another_type s u other is differs _) =
     differs (subst (λ o. TypeAgrees o u) is (agrees u other))
 
-told : (entry : Option CelTypeEntry) (t : ValueType) → TypeGiven entry t → SaysNothing entry → ⊥
-told None t given says = given
-told (Some dyn_type) t given says = given
-told (Some unsupported_type) t given says = says
-told (Some (of_type s)) t given says = says
-
 empty_apart : (entry : Option CelTypeEntry) (IsKind : ValueType → Type 0) (t : ValueType)
-    (e : Refusal) → TypeGiven entry t → IsKind t → EmptyFault entry IsKind e → ⊥
-empty_apart entry IsKind t e given kind (unstated says _) = told entry t given says
+    (e : Refusal) → entry ≡ Some (of_type t) → IsKind t → EmptyFault entry IsKind e → ⊥
+empty_apart entry IsKind t e given kind (unstated (inl none) _) = none-some (of_type t) (sym none ∙ given)
+empty_apart entry IsKind t e given kind (unstated (inr dyn) _) = let same : Some dyn_type ≡ Some (of_type t) = sym dyn ∙ given in cc
 empty_apart entry IsKind t e given kind (of_another_kind s is never _) =
-    never (subst IsKind (sym (subst (λ o. TypeGiven o t) is given)) kind)
+    never (subst IsKind (given_one entry t s given is) kind)
 
 ident_apart : (ref : Option CelReference) (ks : Kinds) (name : List ℕ) (t : ValueType) (e : Refusal)
     → IdentRule ks name t → NameAgrees ref name (IdentRule ks name) → IdentFault ref ks name e → ⊥
@@ -80,9 +76,9 @@ call_apart : (name : List ℕ) (on : Bool) (Operands : List ValueType → Type 0
     → CallRule name on Operands t → CallsFault name on Operands InOperands e → ⊥
 call_apart name on Operands InOperands t e one apart rule (CallsFault.unknown is _) =
     none-some rule.3.0 (sym is ∙ rule.3.1)
-call_apart name on Operands InOperands t e one apart rule (CallsFault.no_overload ts operands fault _) =
+call_apart name on Operands InOperands t e one apart rule (CallsFault.no_overload f ts named operands never _) =
     call_disjoint name on rule.0 rule.2 t calls.NoOverload rule.3
-    (rw (one rule.0 ts rule.1 operands) fault)
+    (f, named, rw (one rule.0 ts rule.1 operands) never)
 call_apart name on Operands InOperands t e one apart rule (CallsFault.in_operand inside) =
     apart rule.0 e rule.1 inside
 
@@ -169,11 +165,7 @@ module _ (x y acc : List ℕ) (Range Init : ValueType → Type 0)
   loop_apart : (t : ValueType) (e : Refusal)
       → LoopRule x y acc Range Init Condition Step Result t
       → LoopFault x y acc Range Init Condition Step InRange InInit InTurn InResult e → ⊥
-  loop_apart t e rule (no_element_name is _) = rule.names.element is
-  loop_apart t e rule (no_accumulator_name is _) = rule.names.gathered is
-  loop_apart t e rule (one_name is _) = rule.names.differ is
-  loop_apart t e rule (one_variable some is _) = rule.names.second is
-  loop_apart t e rule (second_accumulator some is _) = rule.names.apart is
+  loop_apart t e rule (in_names fault) = rule.names e fault
   loop_apart t e rule (no_elements s r never _) =
       never rule.each (subst (λ w. IsOver (variables_of y) w rule.each) (range rule.walked s rule.range r)
       rule.over)

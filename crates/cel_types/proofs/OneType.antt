@@ -4,11 +4,12 @@ use Rattle.std.specs.FinMap.{get}
 use Rattle.cel_value.specs.Types.{ValueType, list_type, map_type, type_of_key}
 use Rattle.cel_value.specs.declared.cel_type.KeyType.{KeyType}
 use Rattle.cel_value.specs.declared.cel_type.KeyType.TheVariants as keys
-use Rattle.cel_tree.specs.Checked.{CelTypeEntry, of_type, dyn_type, unsupported_type}
+use Rattle.cel_tree.specs.Checked.{CelTypeEntry, of_type}
 use Rattle.cel_tree.specs.Tree.{CelTree, constant, ident, select, call, list_literal, map_literal, comprehension, CelTarget, no_target, target, CelTrees, no_trees, tree, CelTreeEntries, no_tree_entries, tree_entry}
 use Rattle.cel_overload.proofs.OneOverload.{call_unique}
 use Rattle.cel_types.specs.Names.{root_of, turn_scope}
-use Rattle.cel_types.specs.Typing.{CallRule, IsOver, Kinds, ListRule, LoopRule, MapRule, Maps, SelectRule, TypeGiven, Types, TypesAll, TypesEach, TypesPairs, TypesTarget, has_target}
+use Rattle.cel_types.specs.Typing.{IsOver, Kinds, ListRule, LoopRule, MapRule, Maps, SelectRule, Types, TypesAll, TypesEach, TypesPairs, TypesTarget, has_target}
+use Rattle.cel_types.specs.private.Agreeing.{CallRule}
 use Rattle.cel_types.specs.declared.typed.Variables.{Variables}
 use Rattle.cel_types.specs.declared.typed.Variables.TheVariants as variables
 
@@ -19,11 +20,10 @@ one_some o a b d e = let k : Some a ≡ Some b = sym d ∙ e in cc
 abbrev pub OneAtMost : {A : Type 0} → (A → Type 0) → Type 0
 OneAtMost {A} P = (a b : A) → P a → P b → a ≡ b
 
-given_one : (entry : Option CelTypeEntry) → OneAtMost (TypeGiven entry)
-given_one None a b g h = absurd g
-given_one (Some dyn_type) a b g h = absurd g
-given_one (Some unsupported_type) a b g h = absurd g
-given_one (Some (of_type s)) a b g h = sym g ∙ h
+pub given_one : (entry : Option CelTypeEntry) (s t : ValueType) → entry ≡ Some (of_type s)
+    → entry ≡ Some (of_type t) → s ≡ t
+given_one entry s t g h =
+    let same : of_type s ≡ of_type t = one_some entry (of_type s) (of_type t) g h in cc
 
 pub select_one : (root : Option (List ℕ)) (Operand : ValueType → Type 0) (field : List ℕ)
     (test_only : Bool) → OneAtMost Operand → OneAtMost (SelectRule root Operand field test_only)

@@ -20,9 +20,10 @@ use Rattle.attributes.specs.declared.attribute.AttrId.{AttrId}
 use Rattle.cel_ops.specs.Attributes.{attribute_type}
 use Rattle.cel_types.specs.Attributes.{attribute_named}
 use Rattle.cel_types.specs.Names.{bare_root, is_root, joined_name, local, root_of, turn_scope, variables_of}
-use Rattle.cel_types.specs.Typing.{CallRule, IdentRule, IsList, IsMap, IsOver, Kinds, ListRule, LoopRule, MapRule, Maps, NamesDiffer, RefAgrees, SelectRule, TypeGiven, Types, TypesAll, TypesEach, TypesPairs, TypesTarget, constant_type, field_type, has_target, name_type}
-use Rattle.cel_types.specs.TypingFaults.{CallsFault, UnsupportedConstant, ElementsFault, EmptyFault, NodeTypeFault, IdentFault, ItemTypes, KeyTypes, ListFault, LoopFault, MapsFault, PairFault, PairsFault, RefDiffers, SelectFault, SomeFault, SomeTypes, TargetFault, TypeFault}
-use Rattle.cel_types.specs.TypingFaults.{unsupported_kind, unstated, of_another_kind, no_element_name, no_accumulator_name, one_name, one_variable, second_accumulator, no_elements, no_condition, no_step, in_range, in_init, in_turn, in_result}
+use Rattle.cel_types.specs.Typing.{IsList, IsMap, IsOver, Kinds, ListRule, LoopRule, MapRule, Maps, NamesFault, RefAgrees, SelectRule, Types, TypesAll, TypesEach, TypesPairs, TypesTarget, constant_type, field_type, has_target, name_type}
+use Rattle.cel_types.specs.TypingFaults.{CallsFault, UnsupportedConstant, ElementsFault, EmptyFault, NodeTypeFault, IdentFault, ItemTypes, KeyTypes, ListFault, LoopFault, MapsFault, PairFault, PairsFault, SelectFault, SomeFault, SomeTypes, TargetFault, TypeFault}
+use Rattle.cel_types.specs.TypingFaults.{unsupported_kind, unstated, of_another_kind, in_names, no_elements, no_condition, no_step, in_range, in_init, in_turn, in_result}
+use Rattle.cel_types.specs.private.Agreeing.{CallRule, IdentRule, NamesDiffer, RefDiffers}
 use Rattle.cel_types.specs.declared.typed.Variables.{Variables}
 use Rattle.cel_types.specs.declared.typed.Variables.TheVariants as variables
 
@@ -119,16 +120,16 @@ call_decided name on Operands InOperands (inr (e, f)) = inr (e, CallsFault.in_op
 call_decided name on Operands InOperands (inl (ts, h)) = elim (call_total name on ts) [
   | inl (o, r, c) ↦ inl (r, (ts, h, o, c))
   | inr (calls.UnknownName, f) ↦ inr (UnknownName, CallsFault.unknown f refl)
-  | inr (calls.NoOverload, f) ↦ inr (NoOverload, CallsFault.no_overload ts h f refl)
+  | inr (calls.NoOverload, f) ↦ inr (NoOverload, CallsFault.no_overload f.0 ts f.1 h f.2 refl)
 ]
 
 -- what an empty literal is by its entry
 empty_decided : (entry : Option CelTypeEntry) (IsKind : ValueType → Type 0)
     → ((t : ValueType) → IsKind t ⊎ (IsKind t → ⊥))
-    → Decided (λ t. TypeGiven entry t × IsKind t)
-    (λ e. EmptyFault entry IsKind e ⊎ NodeTypeFault entry (λ t. TypeGiven entry t × IsKind t) e)
-empty_decided None IsKind decide = inr (NeedsType, inl (unstated tt refl))
-empty_decided (Some dyn_type) IsKind decide = inr (NeedsType, inl (unstated tt refl))
+    → Decided (λ t. (entry ≡ Some (of_type t)) × IsKind t)
+    (λ e. EmptyFault entry IsKind e ⊎ NodeTypeFault entry (λ t. (entry ≡ Some (of_type t)) × IsKind t) e)
+empty_decided None IsKind decide = inr (NeedsType, inl (unstated (inl refl) refl))
+empty_decided (Some dyn_type) IsKind decide = inr (NeedsType, inl (unstated (inr refl) refl))
 empty_decided (Some unsupported_type) IsKind decide =
     inr (Unsupported, inr (unsupported_kind refl refl))
 empty_decided (Some (of_type s)) IsKind decide = elim (decide s) [
@@ -281,16 +282,23 @@ module _ (m : Maps) (ks : Kinds) where
 
 -- ---- comprehensions
 
-names_decided : (x y acc : List ℕ) → NamesDiffer x y acc
-    ⊎ ((x ≡ []) ⊎ ((acc ≡ []) ⊎ ((x ≡ acc) ⊎ ((y ≢ []) × ((x ≡ y) ⊎ (y ≡ acc))))))
-names_decided [] y acc = inr (inl refl)
-names_decided (c ∷ x) y [] = inr (inr (inl refl))
+-- names that differ have no fault
+pub names_faultless : (x y acc : List ℕ) → NamesDiffer x y acc → (e : Refusal) → NamesFault x y acc e → ⊥
+names_faultless x y acc names e (inl fault) = names.element fault.0
+names_faultless x y acc names e (inr (inl fault)) = names.gathered fault.0
+names_faultless x y acc names e (inr (inr (inl fault))) = names.differ fault.0
+names_faultless x y acc names e (inr (inr (inr (some, inl is, _)))) = names.second is
+names_faultless x y acc names e (inr (inr (inr (some, inr is, _)))) = names.apart is
+
+names_decided : (x y acc : List ℕ) → NamesDiffer x y acc ⊎ ((e : Refusal) × NamesFault x y acc e)
+names_decided [] y acc = inr (Missing, inl (refl, refl))
+names_decided (c ∷ x) y [] = inr (Missing, inr (inl (refl, refl)))
 names_decided (c ∷ x) y (d ∷ acc) = elim (same_name (c ∷ x) (d ∷ acc)) [
-  | inl e ↦ inr (inr (inr (inl e)))
+  | inl e ↦ inr (OutOfRange, inr (inr (inl (e, refl))))
   | inr differs ↦ elim (same_name (c ∷ x) y) [
-    | inl e ↦ inr (inr (inr (inr (λ none. let clash : c ∷ x ≡ [] = e ∙ none in cc, inl e))))
+    | inl e ↦ inr (OutOfRange, inr (inr (inr (λ none. let clash : c ∷ x ≡ [] = e ∙ none in cc, inl e, refl))))
     | inr second ↦ elim (same_name y (d ∷ acc)) [
-      | inl e ↦ inr (inr (inr (inr (λ none. let clash : d ∷ acc ≡ [] = sym e ∙ none in cc, inr e))))
+      | inl e ↦ inr (OutOfRange, inr (inr (inr (λ none. let clash : d ∷ acc ≡ [] = sym e ∙ none in cc, inr e, refl))))
       | inr apart ↦ inl (record {
         element = λ e. cc;
         gathered = λ e. cc;
@@ -334,7 +342,7 @@ module _ (x y acc : List ℕ) (Range Init : ValueType → Type 0)
           | inl keeps ↦ inl (
             v,
             record {
-              names = names;
+              names = names_faultless x y acc names;
               walked = w;
               each = each;
               gathered = a;
@@ -351,11 +359,7 @@ module _ (x y acc : List ℕ) (Range Init : ValueType → Type 0)
 
   loop_total : Loop
   loop_total = elim (names_decided x y acc) [
-    | inr (inl e) ↦ inr (Missing, no_element_name e refl)
-    | inr (inr (inl e)) ↦ inr (Missing, no_accumulator_name e refl)
-    | inr (inr (inr (inl e))) ↦ inr (OutOfRange, one_name e refl)
-    | inr (inr (inr (inr (some, inl e)))) ↦ inr (OutOfRange, one_variable some e refl)
-    | inr (inr (inr (inr (some, inr e)))) ↦ inr (OutOfRange, second_accumulator some e refl)
+    | inr (e, f) ↦ inr (e, in_names f)
     | inl names ↦ elim range [
       | inr (e, f) ↦ inr (e, in_range f)
       | inl (w, r) ↦ elim init [

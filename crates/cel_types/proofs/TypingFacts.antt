@@ -19,8 +19,11 @@ use Rattle.cel_tree.specs.Checked.{CelChecked, CelReference, CelTypeEntry, of_ty
 use Rattle.cel_tree.specs.Tree.{CelTree, constant, ident, select, call, comprehension, list_literal, map_literal, no_target, no_tree_entries, tree_entry, CelTrees, no_trees, tree}
 use Rattle.cel_overload.proofs.OneOverload.{unchosen}
 use Rattle.cel_overload.specs.Overloads.{IsCall}
-use Rattle.cel_types.specs.Typing.{EntriesAgree, EntryAgrees, IsTyped, Kinds, Maps, NamesDiffer, RefAgrees, TypeGiven, Types, TypesEach, locals_in}
-use Rattle.cel_types.specs.TypingFaults.{CallsFault, CheckFault, too_many_locals, ElementsFault, IdentFault, PairsFault, SaysNothing, SelectFault, TypeFault, another_type, of_another_kind, unsupported_kind, unstated, no_element_name, no_elements, one_name, one_variable, second_accumulator, in_init, in_range, in_result, in_turn, no_condition}
+use Rattle.cel_types.specs.Typing.{Kinds, Maps, RefAgrees, Types, TypesEach, locals_in}
+use Rattle.cel_types.specs.TypingFaults.{CallsFault, CheckFault, IsTyped, too_many_locals, ElementsFault, IdentFault, PairsFault, SelectFault, TypeFault, another_type, of_another_kind, unsupported_kind, unstated, no_elements, in_names, in_init, in_range, in_result, in_turn, no_condition}
+use Rattle.cel_types.specs.private.Agreeing.{EntriesAgree, EntryAgrees, NamesDiffer}
+use Rattle.cel_types.proofs.CheckLaws.{agreeing_typed}
+use Rattle.cel_types.proofs.Total.{names_faultless}
 use Rattle.cel_types.specs.Elaborated.{Elaborates, no_typed, typed, typed_attribute, typed_call, typed_constant, typed_list, typed_local, typed_loop}
 use Rattle.cel_types.specs.Names.{turn_scope}
 use Rattle.cel_types.specs.declared.typed.Variables.TheVariants as variables
@@ -47,10 +50,6 @@ says : (es : List (ℤ × CelTypeEntry)) (id : ℤ) (Has : ValueType → Type 0)
     → EntryAgrees (find int_cmp id es) Has → EntryAgrees (get (with_types es).types id) Has
 says es id Has h =
     subst (λ o. EntryAgrees o Has) (sym (get-from_entries int_cmp_total es id)) h
-
-given : (es : List (ℤ × CelTypeEntry)) (id : ℤ) (t : ValueType)
-    → TypeGiven (find int_cmp id es) t → TypeGiven (get (with_types es).types id) t
-given es id t h = subst (λ o. TypeGiven o t) (sym (get-from_entries int_cmp_total es id)) h
 
 no_reference : (es : List (ℤ × CelTypeEntry)) (id : ℤ) (name : List ℕ)
     → RefAgrees (get (with_types es).refs id) name
@@ -86,7 +85,7 @@ get_is_typed : (es : List (ℤ × CelTypeEntry))
     → EntryAgrees (find int_cmp (pos 1) es) (Types (with_types es) [] method)
     → find int_cmp (pos 3) es ≡ None → find int_cmp (pos 4) es ≡ None
     → IsTyped (checked es method_is_get) bool_type
-get_is_typed es on_select no_call no_text = record {
+get_is_typed es on_select no_call no_text = agreeing_typed (checked es method_is_get) bool_type (record {
   few = omega arith;
   types = is_bool (with_types es);
   entries = (
@@ -105,7 +104,7 @@ get_is_typed es on_select no_call no_text = record {
       ),
     ),
   );
-}
+})
   where
     call_is : ValueType → Type 0
     call_is = Types (with_types es) [] method_is_get
@@ -207,11 +206,8 @@ method_is_one = call (pos 3) (codes "_==_") no_target
     (tree method (tree (constant (pos 4) (int (pos 1))) no_trees))
 
 not_comparable : TypeFault int_entry [] method_is_one NoOverload
-not_comparable = inl (CallsFault.no_overload (text_type ∷ int_type ∷ []) (refl, (refl, tt)) (
-  functions.Compare Equal,
-  refl,
-  unchosen (functions.Compare Equal) false (text_type ∷ int_type ∷ []) refl,
-) refl)
+not_comparable = inl (CallsFault.no_overload (functions.Compare Equal) (text_type ∷ int_type ∷ []) refl
+    (refl, (refl, tt)) (unchosen (functions.Compare Equal) false (text_type ∷ int_type ∷ []) refl) refl)
 
 entry_differs : TypeFault int_entry [] method_is_one BadTypeEntry
 entry_differs = inl (CallsFault.in_operand (inr (inl int_on_select)))
@@ -265,12 +261,8 @@ int_and_uint : TypesEach (with_types []) [] one_and_one (int_type ∷ uint_type 
 int_and_uint = (refl, (refl, tt))
 
 no_sum : TypeFault (with_types []) [] (call (pos 3) (codes "_+_") no_target one_and_one) NoOverload
-no_sum = inl (CallsFault.no_overload (int_type ∷ uint_type ∷ []) int_and_uint (
-  functions.Arithmetic Add,
-  refl,
-  unchosen (functions.Arithmetic Add) false
-      (int_type ∷ uint_type ∷ []) refl,
-) refl)
+no_sum = inl (CallsFault.no_overload (functions.Arithmetic Add) (int_type ∷ uint_type ∷ []) refl int_and_uint
+    (unchosen (functions.Arithmetic Add) false (int_type ∷ uint_type ∷ []) refl) refl)
 
 no_list : TypeFault (with_types []) [] (list_literal (pos 3) one_and_one) NoOverload
 no_list = inl (ElementsFault.two_types int_type uint_type (inl refl) (inr (inl refl)) (λ e. cc) refl)
@@ -341,17 +333,15 @@ abbrev empty_list : CelTree
 empty_list = list_literal (pos 1) no_trees
 
 untold_list : TypeFault (with_types []) [] empty_list NeedsType
-untold_list = inl (unstated (subst SaysNothing
-    (sym (get-from_entries {X = CelTypeEntry} int_cmp_total [] (pos 1))) tt) refl)
+untold_list = inl (unstated (inl (get-from_entries {X = CelTypeEntry} int_cmp_total [] (pos 1))) refl)
 
 dyn_list : TypeFault (with_types ((pos 1, dyn_type) ∷ [])) [] empty_list NeedsType
-dyn_list = inl (unstated (subst SaysNothing
-    (sym (get-from_entries int_cmp_total ((pos 1, dyn_type) ∷ []) (pos 1))) tt) refl)
+dyn_list = inl (unstated (inr (get-from_entries int_cmp_total ((pos 1, dyn_type) ∷ []) (pos 1))) refl)
 
 told_list : Types (with_types ((pos 1, of_type (list_type int_type)) ∷ [])) [] empty_list
     (list_type int_type)
 told_list =
-    (given ((pos 1, of_type (list_type int_type)) ∷ []) (pos 1) (list_type int_type) refl, tt)
+    (get-from_entries int_cmp_total ((pos 1, of_type (list_type int_type)) ∷ []) (pos 1), tt)
 
 unsupported_list : TypeFault (with_types ((pos 1, unsupported_type) ∷ [])) [] empty_list Unsupported
 unsupported_list = inr (unsupported_kind
@@ -420,7 +410,7 @@ equal_ints = (
 
 loop_is_bool : Types (with_types []) [] (seven_loop (codes "x") (codes "y") list_of_seven) bool_type
 loop_is_bool = record {
-  names = x_and_y;
+  names = names_faultless (codes "x") [] (codes "y") x_and_y;
   walked = list_type int_type;
   each = int_type ∷ [];
   gathered = bool_type;
@@ -450,13 +440,13 @@ three_in_two_variables = refl
 
 two_are_bool : Types (with_types []) [] (two_loop (codes "v")) bool_type
 two_are_bool = record {
-  names = record {
+  names = names_faultless (codes "x") (codes "v") (codes "y") (record {
     element = λ e. cc;
     gathered = λ e. cc;
     differ = x_is_not_y;
     second = λ e. let same : false ≡ true = (bytes_decides (codes "x") (codes "v")).1 e in cc;
     apart = λ e. let same : false ≡ true = (bytes_decides (codes "v") (codes "y")).1 e in cc;
-  };
+  });
   walked = list_type int_type;
   each = int_type ∷ int_type ∷ [];
   gathered = bool_type;
@@ -475,19 +465,19 @@ two_are_bool = record {
 
 -- a second name that is another's is 5
 second_is_first : TypeFault (with_types []) [] (two_loop (codes "x")) OutOfRange
-second_is_first = inl (one_variable (λ e. cc) refl refl)
+second_is_first = inl (in_names (inr (inr (inr (λ e. cc, inl refl, refl)))))
 
 second_is_accumulator : TypeFault (with_types []) [] (two_loop (codes "y")) OutOfRange
-second_is_accumulator = inl (second_accumulator (λ e. cc) refl refl)
+second_is_accumulator = inl (in_names (inr (inr (inr (λ e. cc, inr refl, refl)))))
 
 -- a name that is not given is 4, one name twice 5, a range of no list and no map 10
 
 nameless : TypeFault (with_types []) [] (seven_loop [] (codes "y") list_of_seven) Missing
-nameless = inl (no_element_name refl refl)
+nameless = inl (in_names (inl (refl, refl)))
 
 one_name_twice : TypeFault (with_types []) [] (seven_loop (codes "y") (codes "y") list_of_seven)
     OutOfRange
-one_name_twice = inl (one_name refl refl)
+one_name_twice = inl (in_names (inr (inr (inl (refl, refl)))))
 
 range_of_an_int : TypeFault (with_types []) []
     (seven_loop (codes "x") (codes "y") (constant (pos 12) (int (pos 7)))) NoOverload
@@ -602,7 +592,7 @@ sixty_five = refl
 loops_are_bool : (ks : Kinds) (n : ℕ) → Types (with_types []) ks (loops n) bool_type
 loops_are_bool ks zero = refl
 loops_are_bool ks (suc n) = record {
-  names = x_and_y;
+  names = names_faultless (codes "x") [] (codes "y") x_and_y;
   walked = list_type int_type;
   each = int_type ∷ [];
   gathered = bool_type;
@@ -641,16 +631,16 @@ loops_agree ks (suc n) = (
 )
 
 sixty_four_are_typed : IsTyped (checked [] (loops 32)) bool_type
-sixty_four_are_typed = record {
+sixty_four_are_typed = agreeing_typed (checked [] (loops 32)) bool_type (record {
   few = subst (λ n. n ≤ 64) (sym sixty_four) (omega arith);
   types = loops_are_bool [] 32;
   entries = loops_agree [] 32;
-}
+})
 
 -- the 65 have a type, and the fault all the same
 sixty_five_are_bool : Types (with_types []) [] (loops_in_result 32) bool_type
 sixty_five_are_bool = record {
-  names = x_and_y;
+  names = names_faultless (codes "x") [] (codes "y") x_and_y;
   walked = list_type int_type;
   each = int_type ∷ [];
   gathered = bool_type;

@@ -12,7 +12,8 @@ use Rattle.cel_overload.specs.declared.overload.Overload.{Overload}
 use Rattle.cel_types.specs.Attributes.{attribute_named}
 use Rattle.cel_types.specs.Names.{Scope, joined_name, root_of, turn_scope, variables_of}
 use Rattle.cel_types.specs.declared.typed.Variables.{Variables}
-use Rattle.cel_types.specs.Typing.{IsOver, IsTyped, Kinds, Maps, Types, has_target, maps_of}
+use Rattle.cel_types.specs.Typing.{IsOver, Kinds, Maps, Types, has_target, maps_of}
+use Rattle.cel_types.specs.TypingFaults.{IsTyped}
 
 mutual
   -- an expression; the type of each node is first

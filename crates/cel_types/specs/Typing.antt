@@ -2,14 +2,16 @@
 -- `google/api/expr/v1alpha1/checked.proto`, CheckedExpr. Rules find types from the tree. Entries of
 -- the message's maps have to agree with them; only the type of an empty literal is taken from its
 -- entry.
-use Rattle.std.specs.Prelude.{◌≡◌, ◌≢◌, ◌≤◌, ◌+◌, ℕ, Bool, true, false, max, List, [], ◌∷◌, Option, Some, None, option_map}
+use Rattle.std.specs.Prelude.{◌≡◌, ◌≢◌, ◌⊎◌, ◌+◌, ℕ, Bool, true, false, max, List, [], ◌∷◌, Option, Some, None, option_map}
 use Rattle.std.specs.FinMap.{FinMap, get}
 use Rattle.std.specs.Ordering.{int_cmp}
+use Rattle.proto_wire.specs.declared.refusal.Refusal.{Refusal}
+use Rattle.proto_wire.specs.declared.refusal.Refusal.TheVariants.{Missing, OutOfRange}
 use Rattle.cel_value.specs.Types.{ValueType, bool_type, int_type, uint_type, text_type, bytes_type, list_type, map_type, type_of_key}
 use Rattle.cel_value.specs.Values.{CelValue, bool, int, uint, text, bytes}
 use Rattle.cel_value.specs.declared.cel_type.KeyType.{KeyType}
 use Rattle.cel_value.specs.declared.cel_type.KeyType.TheVariants as keys
-use Rattle.cel_tree.specs.Checked.{CelChecked, CelReference, CelTypeEntry, of_type, dyn_type, unsupported_type}
+use Rattle.cel_tree.specs.Checked.{CelChecked, CelReference, CelTypeEntry, of_type}
 use Rattle.cel_tree.specs.Tree.{CelTree, constant, ident, select, call, list_literal, map_literal, comprehension, CelTarget, no_target, target, CelTrees, no_trees, tree, CelTreeEntries, no_tree_entries, tree_entry}
 use Rattle.cel_overload.specs.Overloads.{IsCall}
 use Rattle.cel_overload.specs.declared.overload.Overload.{Overload}
@@ -34,18 +36,6 @@ pub record Maps : Type 0 where
 
 -- ---- entries of the maps
 
--- the type entry is absent, is `dyn`, or gives the type
-abbrev pub TypeAgrees : Option CelTypeEntry → ValueType → Type 0
-TypeAgrees None t = Unit {0}
-TypeAgrees (Some dyn_type) t = Unit {0}
-TypeAgrees (Some unsupported_type) t = ⊥
-TypeAgrees (Some (of_type s)) t = s ≡ t
-
--- the type entry gives the type
-abbrev pub TypeGiven : Option CelTypeEntry → ValueType → Type 0
-TypeGiven (Some (of_type s)) t = s ≡ t
-TypeGiven _ t = ⊥
-
 -- the reference entry is absent, or names the variable and has no value
 abbrev pub RefAgrees : Option CelReference → List ℕ → Type 0
 RefAgrees None name = Unit {0}
@@ -67,10 +57,6 @@ abbrev pub name_type : List ℕ → Option ValueType → Option ValueType
 name_type name (Some t) = Some t
 name_type name None = option_map attribute_type (attribute_named name)
 
--- the type of an Ident is that of its name
-abbrev pub IdentRule : Kinds → List ℕ → ValueType → Type 0
-IdentRule ks name t = name_type name (local name ks) ≡ Some t
-
 -- the type of a Select of a map whose values have type `t`: bool for a test
 abbrev pub field_type : (test_only : Bool) → ValueType → ValueType
 field_type true t = bool_type
@@ -90,11 +76,6 @@ abbrev pub has_target : CelTarget → Bool
 has_target no_target = false
 has_target (target on) = true
 
--- the type of a call is the result's type of an overload that takes the operands, the target first
-abbrev pub CallRule : List ℕ → Bool → (Operands : List ValueType → Type 0) → ValueType → Type 0
-CallRule name on Operands t =
-    (ts : List ValueType) × Operands ts × (o : Overload) × IsCall name on ts o t
-
 -- the type is a list type
 abbrev pub IsList : ValueType → Type 0
 IsList (list_type t) = Unit {0}
@@ -104,7 +85,7 @@ IsList _ = ⊥
 -- entry
 abbrev pub ListRule : Option CelTypeEntry → CelTrees → (Elements : ValueType → Type 0)
     → ValueType → Type 0
-ListRule entry no_trees Elements t = TypeGiven entry t × IsList t
+ListRule entry no_trees Elements t = (entry ≡ Some (of_type t)) × IsList t
 ListRule entry (tree first others) Elements t =
     (s : ValueType) × Elements s × (t ≡ list_type s)
 
@@ -117,7 +98,7 @@ IsMap _ = ⊥
 -- is empty, it is the map type of its entry
 abbrev pub MapRule : Option CelTypeEntry → CelTreeEntries
     → (Pairs : ValueType → ValueType → Type 0) → ValueType → Type 0
-MapRule entry no_tree_entries Pairs t = TypeGiven entry t × IsMap t
+MapRule entry no_tree_entries Pairs t = (entry ≡ Some (of_type t)) × IsMap t
 MapRule entry (tree_entry id key value others) Pairs t = (k : KeyType) × (s : ValueType)
     × Pairs (type_of_key k) s × (t ≡ map_type k s)
 
@@ -130,19 +111,16 @@ IsOver variables.Two (list_type s) each = each ≡ s ∷ int_type ∷ []
 IsOver variables.Two (map_type k s) each = each ≡ s ∷ type_of_key k ∷ []
 IsOver _ _ each = ⊥
 
--- the names of a comprehension differ; the first variable's and the accumulator's are not empty
-pub record NamesDiffer (x y acc : List ℕ) : Type 0 where
-  pub element : x ≢ []
-  pub gathered : acc ≢ []
-  pub differ : x ≢ acc
-  pub second : x ≢ y
-  pub apart : y ≢ acc
+-- the first variable's name or the accumulator's is empty, or two names of a comprehension are the same
+abbrev pub NamesFault : (x y acc : List ℕ) → Refusal → Type 0
+NamesFault x y acc e = ((x ≡ []) × (e ≡ Missing)) ⊎ (((acc ≡ []) × (e ≡ Missing))
+    ⊎ (((x ≡ acc) × (e ≡ OutOfRange)) ⊎ ((y ≢ []) × ((x ≡ y) ⊎ (y ≡ acc)) × (e ≡ OutOfRange))))
 
 -- a comprehension over its range: its condition is a bool, and its step has the accumulator's type
 pub record LoopRule (x y acc : List ℕ) (Range Init : ValueType → Type 0)
     (Condition Step : List ValueType → ValueType → ValueType → Type 0)
     (Result : ValueType → ValueType → Type 0) (t : ValueType) : Type 0 where
-  pub names : NamesDiffer x y acc
+  pub names : (e : Refusal) → NamesFault x y acc e → ⊥
   pub walked : ValueType
   pub each : List ValueType
   pub gathered : ValueType
@@ -156,14 +134,16 @@ pub record LoopRule (x y acc : List ℕ) (Range Init : ValueType → Type 0)
 -- ---- expressions
 
 abbrev mutual
-  -- with these locals, the expression has the type, by the rule of its node
+  -- with these locals, the expression has the type, by the rule of its node. A call has the result's type of an
+  -- overload that takes its operands, the target first
   pub Types : Maps → Kinds → CelTree → ValueType → Type 0
   Types m ks (constant id v) t = constant_type v ≡ Some t
-  Types m ks (ident id name) t = IdentRule ks name t
+  Types m ks (ident id name) t = name_type name (local name ks) ≡ Some t
   Types m ks (select id operand field test_only) t =
       SelectRule (root_of operand ks) (Types m ks operand) field test_only t
   Types m ks (call id name on args) t =
-      CallRule name (has_target on) (TypesTarget m ks on (TypesEach m ks args)) t
+      (ts : List ValueType) × TypesTarget m ks on (TypesEach m ks args) ts
+      × (o : Overload) × IsCall name (has_target on) ts o t
   Types m ks (list_literal id elements) t =
       ListRule (get m.types id) elements (TypesAll m ks elements) t
   Types m ks (map_literal id entries) t =
@@ -197,71 +177,6 @@ abbrev mutual
   TypesPairs m ks no_tree_entries s t = Unit {0}
   TypesPairs m ks (tree_entry id key value others) s t =
       Types m ks key s × Types m ks value t × TypesPairs m ks others s t
-
--- ---- entries of expressions
-
--- the type entry agrees with each type that the node has
-abbrev pub EntryAgrees : Option CelTypeEntry → (Has : ValueType → Type 0) → Type 0
-EntryAgrees entry Has = (t : ValueType) → Has t → TypeAgrees entry t
-
--- the reference entry agrees with the name, if the node has a type
-abbrev pub NameAgrees : Option CelReference → List ℕ → (Has : ValueType → Type 0) → Type 0
-NameAgrees ref name Has = (t : ValueType) → Has t → RefAgrees ref name
-
--- for a root's attribute the reference entry agrees; for any other Select, the operand's entries do
-abbrev pub SelectAgrees : Option CelReference → Option (List ℕ) → List ℕ
-    → (Has : ValueType → Type 0) → (Operand : Type 0) → Type 0
-SelectAgrees ref (Some root) field Has Operand = NameAgrees ref (joined_name root field) Has
-SelectAgrees ref None field Has Operand = Operand
-
-abbrev mutual
-  -- with these locals, the entries of the expression's node and of all nodes inside agree. Entries of
-  -- a root under a Select are not used
-  pub EntriesAgree : Maps → Kinds → CelTree → Type 0
-  EntriesAgree m ks (constant id v) =
-      EntryAgrees (get m.types id) (Types m ks (constant id v))
-  EntriesAgree m ks (ident id name) =
-      EntryAgrees (get m.types id) (Types m ks (ident id name))
-      × NameAgrees (get m.refs id) name (Types m ks (ident id name))
-  EntriesAgree m ks (select id operand field test_only) =
-      EntryAgrees (get m.types id) (Types m ks (select id operand field test_only))
-      × SelectAgrees (get m.refs id) (root_of operand ks) field
-      (Types m ks (select id operand field test_only)) (EntriesAgree m ks operand)
-  EntriesAgree m ks (call id name on args) =
-      EntryAgrees (get m.types id) (Types m ks (call id name on args))
-      × TargetAgrees m ks on × EachAgrees m ks args
-  EntriesAgree m ks (list_literal id elements) =
-      EntryAgrees (get m.types id) (Types m ks (list_literal id elements))
-      × EachAgrees m ks elements
-  EntriesAgree m ks (map_literal id entries) =
-      EntryAgrees (get m.types id) (Types m ks (map_literal id entries))
-      × PairsAgree m ks entries
-  EntriesAgree m ks (comprehension id x y acc range init condition step result) =
-      EntryAgrees (get m.types id)
-      (Types m ks (comprehension id x y acc range init condition step result))
-      × EntriesAgree m ks range × EntriesAgree m ks init
-      × ((walked : ValueType) (each : List ValueType) (gathered : ValueType) → Types m ks range walked
-      → IsOver (variables_of y) walked each → Types m ks init gathered
-      → EntriesAgree m (turn_scope x y acc each gathered ks) condition
-      × EntriesAgree m (turn_scope x y acc each gathered ks) step)
-      × ((gathered : ValueType) → Types m ks init gathered
-      → EntriesAgree m ((acc, gathered) ∷ ks) result)
-
-  -- the entries in a call's target, if there is one, agree
-  pub TargetAgrees : Maps → Kinds → CelTarget → Type 0
-  TargetAgrees m ks no_target = Unit {0}
-  TargetAgrees m ks (target on) = EntriesAgree m ks on
-
-  -- the entries of each expression agree
-  pub EachAgrees : Maps → Kinds → CelTrees → Type 0
-  EachAgrees m ks no_trees = Unit {0}
-  EachAgrees m ks (tree a others) = EntriesAgree m ks a × EachAgrees m ks others
-
-  -- the entries of each key and value agree
-  pub PairsAgree : Maps → Kinds → CelTreeEntries → Type 0
-  PairsAgree m ks no_tree_entries = Unit {0}
-  PairsAgree m ks (tree_entry id key value others) =
-      EntriesAgree m ks key × EntriesAgree m ks value × PairsAgree m ks others
 
 -- ---- scopes
 
@@ -304,9 +219,3 @@ abbrev mutual
 -- the maps of a checked expression
 abbrev pub maps_of : CelChecked → Maps
 maps_of c = record { types = c.types; refs = c.refs }
-
--- the checked expression has the type, its entries agree, and no node has too many locals in scope
-pub record IsTyped (c : CelChecked) (t : ValueType) : Type 0 where
-  pub few : locals_in c.tree ≤ most_locals
-  pub types : Types (maps_of c) [] c.tree t
-  pub entries : EntriesAgree (maps_of c) [] c.tree

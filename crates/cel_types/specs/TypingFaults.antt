@@ -5,7 +5,7 @@
 use Rattle.std.specs.Prelude.{◌≡◌, ◌≢◌, ◌⊎◌, ◌<◌, ℕ, Bool, true, false, List, [], ◌∷◌, Option, Some, None, option_map}
 use Rattle.std.specs.FinMap.{get}
 use Rattle.proto_wire.specs.declared.refusal.Refusal.{Refusal}
-use Rattle.proto_wire.specs.declared.refusal.Refusal.TheVariants.{BadReference, BadTypeEntry, Missing, NeedsType, NoOverload, OutOfRange, TooLarge, Unsupported, UnknownName}
+use Rattle.proto_wire.specs.declared.refusal.Refusal.TheVariants.{BadReference, BadTypeEntry, NeedsType, NoOverload, TooLarge, Unsupported, UnknownName}
 use Rattle.cel_value.specs.Types.{ValueType, bool_type, map_type, type_of_key}
 use Rattle.cel_value.specs.Values.{CelValue}
 use Rattle.cel_value.specs.declared.cel_type.KeyType.{KeyType}
@@ -13,13 +13,14 @@ use Rattle.cel_value.specs.declared.cel_type.KeyType.TheVariants as keys
 use Rattle.cel_tree.specs.Checked.{CelChecked, CelReference, CelTypeEntry, of_type, dyn_type, unsupported_type}
 use Rattle.cel_tree.specs.Tree.{CelTree, constant, ident, select, call, list_literal, map_literal, comprehension, CelTarget, no_target, target, CelTrees, no_trees, tree, CelTreeEntries, no_tree_entries, tree_entry}
 use Rattle.cel_overload.specs.Functions.{function_named}
-use Rattle.cel_overload.specs.Overloads.{CallFault}
-use Rattle.cel_overload.specs.declared.overload.OverloadFault.TheVariants as calls
+use Rattle.cel_overload.specs.Overloads.{IsOverload}
+use Rattle.cel_overload.specs.declared.function.Function.{Function}
+use Rattle.cel_overload.specs.declared.overload.Overload.{Overload}
 use Rattle.cel_ops.specs.Attributes.{attribute_type}
 use Rattle.cel_types.specs.Attributes.{attribute_named}
 use Rattle.cel_types.specs.Names.{bare_root, joined_name, local, root_of, turn_scope, variables_of}
 use Rattle.cel_types.specs.declared.typed.Variables.{Variables}
-use Rattle.cel_types.specs.Typing.{IsList, IsMap, IsOver, Kinds, Maps, RefAgrees, Types, TypesEach, TypesTarget, constant_type, has_target, locals_in, maps_of, most_locals, name_type}
+use Rattle.cel_types.specs.Typing.{IsList, IsMap, IsOver, Kinds, Maps, NamesFault, RefAgrees, Types, TypesEach, TypesTarget, constant_type, has_target, locals_in, maps_of, most_locals, name_type}
 
 -- ---- entries
 
@@ -30,20 +31,10 @@ pub data NodeTypeFault (entry : Option CelTypeEntry) (Has : ValueType → Type 0
     another_type : (s t : ValueType) → Has t → entry ≡ Some (of_type s) → s ≢ t
         → e ≡ BadTypeEntry → NodeTypeFault entry Has e
 
--- a reference entry names another variable, or holds a value
-abbrev pub RefDiffers : Option CelReference → List ℕ → Type 0
-RefDiffers ref name = RefAgrees ref name → ⊥
-
--- the type entry of an empty literal is absent, or `dyn`
-abbrev pub SaysNothing : Option CelTypeEntry → Type 0
-SaysNothing None = Unit {0}
-SaysNothing (Some dyn_type) = Unit {0}
-SaysNothing (Some _) = ⊥
-
--- a fault of an empty literal's entry: it gives no type, or a type of another kind
+-- a fault of an empty literal's entry: it is absent or `dyn`, or gives a type of another kind
 pub data EmptyFault (entry : Option CelTypeEntry) (IsKind : ValueType → Type 0) (e : Refusal) : Type 0
   where
-    unstated : SaysNothing entry → e ≡ NeedsType → EmptyFault entry IsKind e
+    unstated : (entry ≡ None) ⊎ (entry ≡ Some dyn_type) → e ≡ NeedsType → EmptyFault entry IsKind e
     of_another_kind : (s : ValueType) → entry ≡ Some (of_type s) → (IsKind s → ⊥)
         → e ≡ BadTypeEntry → EmptyFault entry IsKind e
 
@@ -58,7 +49,7 @@ pub data IdentFault (ref : Option CelReference) (ks : Kinds) (name : List ℕ) (
   where
     unknown : name_type name (local name ks) ≡ None → e ≡ UnknownName → IdentFault ref ks name e
     other_reference : (t : ValueType) → name_type name (local name ks) ≡ Some t
-        → RefDiffers ref name → e ≡ BadReference → IdentFault ref ks name e
+        → (RefAgrees ref name → ⊥) → e ≡ BadReference → IdentFault ref ks name e
 
 module _ (ref : Option CelReference) (root : Option (List ℕ)) (Operand : ValueType → Type 0)
     (InOperand : Refusal → Type 0) (field : List ℕ) (test_only : Bool) (e : Refusal) where
@@ -70,7 +61,7 @@ module _ (ref : Option CelReference) (root : Option (List ℕ)) (Operand : Value
     asked : (r : List ℕ) → root ≡ Some r → test_only ≡ true → e ≡ UnknownName → SelectFault
     other_reference : (r : List ℕ) (t : ValueType) → root ≡ Some r → test_only ≡ false
         → option_map attribute_type (attribute_named (joined_name r field)) ≡ Some t
-        → RefDiffers ref (joined_name r field) → e ≡ BadReference → SelectFault
+        → (RefAgrees ref (joined_name r field) → ⊥) → e ≡ BadReference → SelectFault
     no_names : (s : ValueType) → root ≡ None → Operand s → ((t : ValueType) → s ≢ map_type keys.Text t)
         → e ≡ NoOverload → SelectFault
     in_operand : root ≡ None → InOperand e → SelectFault
@@ -81,8 +72,9 @@ pub data CallsFault (name : List ℕ) (on : Bool) (Operands : List ValueType →
     (InOperands : Refusal → Type 0) (e : Refusal) : Type 0 where
   unknown : function_named name ≡ None → e ≡ UnknownName
       → CallsFault name on Operands InOperands e
-  no_overload : (ts : List ValueType) → Operands ts → CallFault name on ts calls.NoOverload
-      → e ≡ NoOverload → CallsFault name on Operands InOperands e
+  no_overload : (f : Function) (ts : List ValueType) → function_named name ≡ Some f → Operands ts
+      → ((o : Overload) (t : ValueType) → IsOverload f on ts o t → ⊥) → e ≡ NoOverload
+      → CallsFault name on Operands InOperands e
   in_operand : InOperands e → CallsFault name on Operands InOperands e
 
 module _ (HasElement : ValueType → Type 0) (InElements : Refusal → Type 0) (e : Refusal) where
@@ -109,14 +101,10 @@ module _ (x y acc : List ℕ) (Range Init : ValueType → Type 0)
     (Condition Step : List ValueType → ValueType → ValueType → Type 0)
     (InRange InInit : Refusal → Type 0) (InTurn : List ValueType → ValueType → Refusal → Type 0)
     (InResult : ValueType → Refusal → Type 0) (e : Refusal) where
-  -- a fault of a comprehension: iter_var or accu_var is empty, two given names are the same, or the range has no
-  -- elements. Or the condition is not a bool, the step is not of the accumulator's type, or a part has a fault
+  -- a fault of a comprehension: of its names; or the range has no elements, the condition is not a bool, the step
+  -- is not of the accumulator's type, or a part has a fault
   pub data LoopFault : Type 0 where
-    no_element_name : x ≡ [] → e ≡ Missing → LoopFault
-    no_accumulator_name : acc ≡ [] → e ≡ Missing → LoopFault
-    one_name : x ≡ acc → e ≡ OutOfRange → LoopFault
-    one_variable : y ≢ [] → x ≡ y → e ≡ OutOfRange → LoopFault
-    second_accumulator : y ≢ [] → y ≡ acc → e ≡ OutOfRange → LoopFault
+    in_names : NamesFault x y acc e → LoopFault
     no_elements : (s : ValueType) → Range s → ((each : List ValueType) → IsOver (variables_of y) s each → ⊥)
         → e ≡ NoOverload → LoopFault
     no_condition : (each : List ValueType) (a t : ValueType) → AreGot (variables_of y) Range each → Init a
@@ -213,3 +201,8 @@ abbrev mutual
 pub data CheckFault (c : CelChecked) (e : Refusal) : Type 0 where
   too_many_locals : most_locals < locals_in c.tree → e ≡ TooLarge → CheckFault c e
   untyped : TypeFault (maps_of c) [] c.tree e → CheckFault c e
+
+-- the checked expression has the type by the rules, and no fault: not of an entry of its maps, nor of its number of locals
+pub record IsTyped (c : CelChecked) (t : ValueType) : Type 0 where
+  pub types : Types (maps_of c) [] c.tree t
+  pub faultless : (e : Refusal) → CheckFault c e → ⊥

@@ -29,7 +29,8 @@ use Rattle.cel_ops.specs.declared.operation.Operation.TheVariants as operations
 use Rattle.cel_overload.specs.declared.overload.Overload.TheVariants as overloads
 use Rattle.cel_types.specs.Elaborated.{IsElaborated, TypedTree, no_typed, typed, typed_call, typed_constant}
 use Rattle.cel_types.specs.Meaning.{eval}
-use Rattle.cel_types.specs.Typing.{TypeAgrees, Types, locals_in, maps_of}
+use Rattle.cel_types.specs.Typing.{Types, locals_in, maps_of}
+use Rattle.cel_types.specs.private.Agreeing.{TypeAgrees}
 use Rattle.rbac_match.specs.Formula.{any, end, formula}
 use Rattle.rbac_match.specs.declared.rule.Side.TheVariants.{Permission, Principal}
 use Rattle.rbac_policy.specs.Admission.{IsAdmissibleAs}

@@ -18,7 +18,8 @@ use Rattle.cel_value.specs.Types.{ValueType, bool_type, bytes_type, int_type, li
 use Rattle.cel_tree.specs.Checked.{CelChecked}
 use Rattle.cel_tree.specs.Message.{ExprFault, IsExprOf, ArePresent}
 use Rattle.cel_read.proofs.CheckedLaws.{expr_disjoint, expr_given, expr_total, expr_unique, given_or_not}
-use Rattle.cel_types.specs.Typing.{IsTyped, maps_of}
+use Rattle.cel_types.specs.Typing.{maps_of}
+use Rattle.cel_types.specs.TypingFaults.{IsTyped}
 use Rattle.cel_types.proofs.CheckLaws.{check_disjoint, check_total}
 use Rattle.cel_types.proofs.Elaborating.{elaborated}
 use Rattle.cel_types.proofs.OneType.{one_type}

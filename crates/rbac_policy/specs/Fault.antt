@@ -12,8 +12,7 @@ use Rattle.attributes.specs.Limits.{LimitsValue}
 use Rattle.cel_value.specs.Types.{ValueType, bool_type}
 use Rattle.cel_tree.specs.Checked.{CelChecked}
 use Rattle.cel_tree.specs.Message.{ExprFault, IsExprOf, ArePresent}
-use Rattle.cel_types.specs.Typing.{IsTyped}
-use Rattle.cel_types.specs.TypingFaults.{CheckFault}
+use Rattle.cel_types.specs.TypingFaults.{CheckFault, IsTyped}
 use Rattle.rbac_policy.specs.Costs.{Costs}
 use Rattle.rbac_match.specs.Rules.{SomeRuleFault}
 use Rattle.rbac_match.specs.declared.rule.Side.TheVariants.{Permission, Principal}

@@ -6,8 +6,7 @@ use Rattle.cel_tree.specs.Message.{ExprFault, ExprParts, IsExprOf, ArePresent, c
 use Rattle.cel_tree.specs.Places.{NamesNode}
 use Rattle.cel_read.specs.Places.{ExprFaultAt}
 use Rattle.cel_check.specs.Places.{CheckFaultAt, id_of}
-use Rattle.cel_types.specs.Typing.{IsTyped}
-use Rattle.cel_types.specs.TypingFaults.{CheckFault}
+use Rattle.cel_types.specs.TypingFaults.{CheckFault, IsTyped}
 use Rattle.cel_value.specs.Types.{ValueType, bool_type}
 use Rattle.proto_wire.specs.Fields.{Wire}
 use Rattle.proto_wire.specs.Maps.{Entry, text, Readable, map_of}

@@ -12,8 +12,9 @@ use Rattle.cel_overload.specs.declared.overload.Overload.{Overload}
 use Rattle.cel_types.specs.Attributes.{attribute_named}
 use Rattle.cel_types.specs.Elaborated.{Elaborates, ElaboratesEach, TypedTree, TypedTrees, kind, kinds, typed_attribute, typed_call}
 use Rattle.cel_types.specs.Names.{root_of, turn_scope, variables_of}
-use Rattle.cel_types.specs.Typing.{EachAgrees, EntriesAgree, IsOver, Kinds, Maps, PairsAgree, RefAgrees, SelectAgrees, TargetAgrees, Types}
+use Rattle.cel_types.specs.Typing.{IsOver, Kinds, Maps, RefAgrees, Types}
 use Rattle.cel_types.specs.TypingFaults.{AreGot}
+use Rattle.cel_types.specs.private.Agreeing.{EachAgrees, EntriesAgree, PairsAgree, SelectAgrees, TargetAgrees}
 use Rattle.cel_check.specs.Places.{OwnFault, TypeFaultAt, TargetFaultAt, SomeFaultAt, PairFaultAt}
 use Rattle.cel_types.specs.View.{typed_of}
 use Rattle.cel_check.specs.private.Kinds.{NoElements}

@@ -8,8 +8,8 @@ use Rattle.cel_value.specs.Types.{ValueType, bool_type, list_type, map_type, typ
 use Rattle.cel_value.specs.declared.cel_type.CelType.{CelType}
 use Rattle.cel_value.specs.declared.cel_type.KeyType.{KeyType}
 use Rattle.cel_types.specs.Elaborated.{TypedTree, typed_field, typed_has}
-use Rattle.cel_types.specs.Typing.{IsList, IsMap, IsOver, TypeGiven}
-use Rattle.cel_types.specs.TypingFaults.{EmptyFault, SaysNothing}
+use Rattle.cel_types.specs.Typing.{IsList, IsMap, IsOver}
+use Rattle.cel_types.specs.TypingFaults.{EmptyFault}
 use Rattle.cel_check.specs.declared.checker.kinds.TurnTypes.{TurnTypes}
 use Rattle.cel_types.specs.declared.typed.Variables.{Variables}
 use Rattle.proto_wire.specs.declared.refusal.Refusal.{Refusal}

@@ -5,8 +5,9 @@ ghost use Rattle.std.specs.Str.{bytes_eq};
 ghost use Rattle.cel_tree.specs.View.{name_view, reference_view, type_entry_view};
 ghost use Rattle.cel_value.specs.Texts.{points_of};
 ghost use Rattle.cel_value.specs.Types.{type_view};
-ghost use Rattle.cel_types.specs.Typing.{RefAgrees, TypeAgrees, TypeGiven};
-ghost use Rattle.cel_types.specs.TypingFaults.{NodeTypeFault, RefDiffers};
+ghost use Rattle.cel_types.specs.Typing.{RefAgrees};
+ghost use Rattle.cel_types.specs.TypingFaults.{NodeTypeFault};
+ghost use Rattle.cel_types.specs.private.Agreeing.{RefDiffers, TypeAgrees};
 ghost use Rattle.cel_check.specs.private.Kinds.{NotGiven};
 ghost use Rattle.proto_wire.specs.declared.refusal.Refusal.TheVariants.{BadReference};
 

@@ -4,7 +4,7 @@ ghost use Rattle.std.specs.Prelude.{◌≡◌, IfErr, IfOk, option_map};
 ghost use Rattle.cel_tree.specs.View.{type_entry_view};
 ghost use Rattle.cel_value.specs.Types.{type_view};
 ghost use Rattle.cel_types.specs.Elaborated.{kinds};
-ghost use Rattle.cel_types.specs.Typing.{IsList, IsMap, TypeGiven};
+ghost use Rattle.cel_types.specs.Typing.{IsList, IsMap};
 ghost use Rattle.cel_types.specs.private.ExprViews.{exprs_view};
 ghost use Rattle.cel_check.specs.private.Kinds.{IsListOf, IsMapOf, NoListOf, NoMapOf, NotStated};
 ghost use Rattle.proto_wire.specs.Refusal.{MemoryOr};

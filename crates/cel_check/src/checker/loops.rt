@@ -4,7 +4,7 @@ ghost use Rattle.std.specs.Prelude.{◌≡◌, ◌↔◌, [], IfErr, IfOk, IsTru
 ghost use Rattle.cel_value.specs.Texts.{text_view};
 ghost use Rattle.cel_types.specs.Elaborated.{kind, typed_loop};
 ghost use Rattle.cel_types.specs.Names.{variables_of};
-ghost use Rattle.cel_types.specs.Typing.{NamesDiffer};
+ghost use Rattle.cel_types.specs.private.Agreeing.{NamesDiffer};
 ghost use Rattle.cel_types.specs.View.{expr_view, loop_of};
 ghost use Rattle.cel_types.specs.private.ExprViews.{parts_view};
 ghost use Rattle.cel_check.specs.private.Checks.{NamesFault};

@@ -4,8 +4,7 @@ use Rattle.attributes.specs.Limits.{LimitsValue}
 use Rattle.cel_value.specs.Types.{ValueType, bool_type}
 use Rattle.cel_tree.specs.Checked.{CelChecked}
 use Rattle.cel_tree.specs.Message.{ExprFault, ExprParts, IsExprOf}
-use Rattle.cel_types.specs.Typing.{IsTyped}
-use Rattle.cel_types.specs.TypingFaults.{CheckFault}
+use Rattle.cel_types.specs.TypingFaults.{CheckFault, IsTyped}
 use Rattle.proto_wire.specs.Maps.{Entry, text}
 use Rattle.proto_wire.specs.declared.refusal.Refusal.{Refusal}
 use Rattle.proto_wire.specs.declared.refusal.Refusal.TheVariants.{NotBool, TooCostly}

@@ -1,5 +1,6 @@
 use Rattle.std.proofs.Common.{[], sym, subst}
-use Rattle.cel_types.specs.Typing.{IsTyped, maps_of}
+use Rattle.cel_types.specs.Typing.{maps_of}
+use Rattle.cel_types.specs.TypingFaults.{IsTyped}
 use Rattle.cel_types.proofs.Elaborating.{elaborated}
 use Rattle.cel_types.proofs.laws.typed_is_elaborated.Goals as goal
 
