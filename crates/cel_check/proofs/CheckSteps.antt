@@ -42,14 +42,6 @@ pub view_local : (n : Bor (ArcStr Global)) (t : Bor CelType) (o : Bor Scope)
     → scope_view (Local n t o) ≡ (text_view n.now, type_view t.now) ∷ scope_view o.now
 view_local n t o = search (rules, the_lemmas)
 
--- an entry that gives a type is of it
-pub given_is : (entry : Option CelTypeEntry) (s : ValueType) → TypeGiven entry s
-    → entry ≡ Some (of_type s)
-given_is None s g = absurd g
-given_is (Some dyn_type) s g = absurd g
-given_is (Some unsupported_type) s g = absurd g
-given_is (Some (of_type t)) s g = ap (λ u. Some (of_type u)) g
-
 -- a name that is found has a type
 pub name_types : (name : List ℕ) (ks : Kinds) (n : Name) → IsName name ks n
     → name_type name (local name ks) ≡ Some (kind (name_view n))
@@ -193,7 +185,7 @@ all_left n es =
 
 -- fewer than two are no pair
 pub short_map : (entry : Option CelTypeEntry) (es : List TypedExpr) (t : ValueType) → length es < 2
-    → TypeGiven entry t × IsMap t → IsMapOf entry (kinds (exprs_view es)) t
+    → (entry ≡ Some (of_type t)) × IsMap t → IsMapOf entry (kinds (exprs_view es)) t
 short_map entry [] t few is = is
 short_map entry (x ∷ []) t few is = is
 short_map entry (x ∷ y ∷ es) t few is = absurd (omega (arith, few))

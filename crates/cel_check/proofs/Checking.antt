@@ -14,14 +14,14 @@ use Rattle.cel_value.specs.declared.cel_type.CelType.{CelType}
 use Rattle.cel_value.specs.declared.cel_type.KeyType.TheVariants as keys
 use Rattle.cel_types.specs.Elaborated.{ElaboratesEach, ElaboratesPairs, ElaboratesTarget, TypedTree, TypedTrees, kind, kinds, no_typed, typed, typed_list, typed_loop, typed_map}
 use Rattle.cel_types.specs.Names.{bound, joined_name, root_of, turn_scope, variables_of}
-use Rattle.cel_types.specs.Typing.{ListRule, MapRule, IsOver, Kinds, Maps, Types, TypesAll, TypesEach, TypesPairs, TypesTarget, has_target, locals_in, locals_in_each, locals_in_entries}
+use Rattle.cel_types.specs.Typing.{ListRule, MapRule, IsOver, Kinds, Maps, NamesFault, Types, TypesAll, TypesEach, TypesPairs, TypesTarget, has_target, locals_in, locals_in_each, locals_in_entries}
 use Rattle.cel_types.specs.TypingFaults.{CallsFault, ElementsFault, NodeTypeFault, ItemTypes, KeyTypes, PairsFault, SelectFault, SomeTypes}
-use Rattle.cel_types.specs.TypingFaults.{unsupported_kind, another_type, no_element_name, no_accumulator_name, one_name, one_variable, second_accumulator, no_elements, no_condition, no_step}
+use Rattle.cel_types.specs.TypingFaults.{unsupported_kind, another_type, in_names, no_elements, no_condition, no_step}
 use Rattle.cel_types.specs.private.Agreeing.{EachAgrees, EntriesAgree, EntryAgrees, NamesDiffer, PairsAgree, TargetAgrees, TypeAgrees}
 use Rattle.cel_types.specs.View.{expr_view, typed_of}
 use Rattle.cel_types.specs.private.ExprViews.{exprs_view}
 use Rattle.cel_check.specs.Places.{OwnFault, PairFaultAt, SomeFaultAt, TypeFaultAt, id_of}
-use Rattle.cel_check.specs.private.Checks.{AreFound, AreTwo, BodyFault, EitherFault, InsideAgrees, IsBody, IsAttribute, IsCalled, IsFound, IsNode, IsTarget, IsTurn, NamesFault, PlacedInside, TurnFault}
+use Rattle.cel_check.specs.private.Checks.{AreFound, AreTwo, BodyFault, EitherFault, InsideAgrees, IsBody, IsAttribute, IsCalled, IsFound, IsNode, IsTarget, IsTurn, PlacedInside, TurnFault}
 use Rattle.cel_check.specs.private.Kinds.{IsListOf, IsMapOf, NoCall, NoElements, NoListOf, NoMapOf, each_view, field_of, in_turn, second_type}
 use Rattle.cel_check.specs.declared.checker.kinds.TurnTypes.{TurnTypes}
 use Rattle.cel_types.specs.declared.typed.Variables.{Variables}
@@ -30,7 +30,7 @@ use Rattle.cel_tree.specs.View.{EntryParts, LoopParts, loop_of, tree_entries_of,
 use Rattle.cel_tree.specs.private.TreeViews.{entry_view, tree_entries_view, trees_view}
 use Rattle.cel_types.proofs.OneType.{OneAtMost, one_type, over_one}
 use Rattle.cel_types.proofs.TurnScopes.{over_length}
-use Rattle.cel_types.proofs.Total.{same_type, typed_no_root}
+use Rattle.cel_types.proofs.Total.{names_faultless, same_type, typed_no_root}
 use Rattle.proto_wire.specs.Places.{Path}
 use Rattle.proto_wire.specs.declared.refusal.Refusal.{Refusal}
 use Rattle.proto_wire.specs.declared.refusal.Refusal.TheVariants.{NoOverload}
@@ -137,11 +137,11 @@ pub field_found : (m : Maps) (ks : Kinds) (id : ℤ) (operand : CelTree) (field 
 field_found m ks id operand field true on t is found map =
     let has : Types m ks operand (map_type keys.Text t) =
     subst (Types m ks operand) map (types_of m ks operand on found.0) in
-    rw is (((t, has, refl), refl, refl, refl, found.0), found.1)
+    rw is ((((t, has), refl), refl, refl, refl, found.0), found.1)
 field_found m ks id operand field false on t is found map =
     let has : Types m ks operand (map_type keys.Text t) =
     subst (Types m ks operand) map (types_of m ks operand on found.0) in
-    rw is (((t, has, refl), refl, refl, refl, found.0), found.1)
+    rw is ((has, refl, refl, refl, found.0), found.1)
 
 pub field_bad : (m : Maps) (ks : Kinds) (id : ℤ) (operand : CelTree) (field : List ℕ)
     (test_only : Bool) (on : TypedTree) (e : Refusal) → root_of operand ks ≡ None
@@ -181,8 +181,8 @@ module _ (m : Maps) (ks : Kinds) (id : ℤ) (name : List ℕ) (ts : CelTrees) wh
   call_bad on before es e first others (inl (none, err)) = inl (CallsFault.unknown none err)
   call_bad on before es e first others (inr (never, err)) =
       let all = operands on before es first others in
-      inl (CallsFault.no_overload (kinds (typed_of es)) (target_types m ks on ts (typed_of es) all.0)
-      never err)
+      inl (CallsFault.no_overload never.0 (kinds (typed_of es)) never.1
+      (target_types m ks on ts (typed_of es) all.0) never.2 err)
 
 -- ---- list literals
 
@@ -356,11 +356,7 @@ module _ (m : Maps) (ks : Kinds) (id : ℤ) (p : LoopParts) where
 
   pub names_bad : (e : Refusal) → NamesFault p.iter_var p.iter_var2 p.accu_var e
       → OwnFault m ks (loop_of id p) e
-  names_bad e (inl (none, err)) = inl (no_element_name none err)
-  names_bad e (inr (inl (none, err))) = inl (no_accumulator_name none err)
-  names_bad e (inr (inr (inl (same, err)))) = inl (one_name same err)
-  names_bad e (inr (inr (inr (some, inl same, err)))) = inl (one_variable some same err)
-  names_bad e (inr (inr (inr (some, inr same, err)))) = inl (second_accumulator some same err)
+  names_bad e fault = inl (in_names fault)
 
   module _ (r : TypedTree) (range : IsFound m ks p.iter_range r) where
     has_range : Types m ks p.iter_range (kind r)
@@ -394,7 +390,7 @@ module _ (m : Maps) (ks : Kinds) (id : ℤ) (p : LoopParts) where
       loop_found names c u e (condition, is_bool, step, keeps) result = (
         (
           record {
-            names = names;
+            names = names_faultless p.iter_var p.iter_var2 p.accu_var names;
             walked = kind r;
             each = each;
             gathered = kind i;

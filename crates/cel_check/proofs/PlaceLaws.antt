@@ -34,7 +34,8 @@ own_select ref root Operand In field test_only e (SelectFault.in_operand none ba
 own_call : (name : List ℕ) (on : Bool) (Operands : List ValueType → Type 0) (In : Refusal → Type 0) (e : Refusal)
     → CallsFault name on Operands (λ d. ⊥) e → CallsFault name on Operands In e
 own_call name on Operands In e (CallsFault.unknown none err) = CallsFault.unknown none err
-own_call name on Operands In e (CallsFault.no_overload ts has never err) = CallsFault.no_overload ts has never err
+own_call name on Operands In e (CallsFault.no_overload f ts named has never err) =
+    CallsFault.no_overload f ts named has never err
 own_call name on Operands In e (CallsFault.in_operand bad) = absurd bad
 
 own_list : (entry : Option CelTypeEntry) (ts : CelTrees) (Has : ValueType → Type 0) (In : Refusal → Type 0) (e : Refusal)
@@ -60,11 +61,7 @@ module _ (x y acc : List ℕ) (Range Init : ValueType → Type 0)
     (InResult : ValueType → Refusal → Type 0) (e : Refusal) where
   own_loop : LoopFault x y acc Range Init Condition Step (λ d. ⊥) (λ d. ⊥) (λ each a d. ⊥) (λ a d. ⊥) e
       → LoopFault x y acc Range Init Condition Step InRange InInit InTurn InResult e
-  own_loop (no_element_name none err) = no_element_name none err
-  own_loop (no_accumulator_name none err) = no_accumulator_name none err
-  own_loop (one_name same err) = one_name same err
-  own_loop (one_variable some same err) = one_variable some same err
-  own_loop (second_accumulator some same err) = second_accumulator some same err
+  own_loop (in_names fault) = in_names fault
   own_loop (no_elements s has never err) = no_elements s has never err
   own_loop (no_condition each a t got init has differs err) = no_condition each a t got init has differs err
   own_loop (faulty_step each a t got init has differs err) = faulty_step each a t got init has differs err

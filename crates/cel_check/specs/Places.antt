@@ -3,14 +3,14 @@ use Rattle.std.specs.Prelude.{◌≡◌, ◌⊎◌, ◌<◌, ℤ, false, List, [
 use Rattle.std.specs.FinMap.{get}
 use Rattle.proto_wire.specs.Places.{Path}
 use Rattle.proto_wire.specs.declared.refusal.Refusal.{Refusal}
-use Rattle.proto_wire.specs.declared.refusal.Refusal.TheVariants.{TooLarge}
+use Rattle.proto_wire.specs.declared.refusal.Refusal.TheVariants.{TooLarge, Unsupported}
 use Rattle.cel_value.specs.Types.{ValueType}
 use Rattle.cel_tree.specs.Checked.{CelChecked}
 use Rattle.cel_tree.specs.Places.{NamesNode}
 use Rattle.cel_tree.specs.Tree.{CelTree, constant, ident, select, call, list_literal, map_literal, comprehension, CelTarget, no_target, target, CelTrees, no_trees, tree, CelTreeEntries, no_tree_entries, tree_entry}
 use Rattle.cel_types.specs.Names.{bare_root, root_of, turn_scope, variables_of}
-use Rattle.cel_types.specs.Typing.{Kinds, Maps, Types, TypesEach, TypesTarget, has_target, locals_in, maps_of, most_locals}
-use Rattle.cel_types.specs.TypingFaults.{AreGot, CallsFault, IdentFault, ItemTypes, KeyTypes, ListFault, LoopFault, MapsFault, NodeTypeFault, SelectFault, SomeTypes, UnsupportedConstant}
+use Rattle.cel_types.specs.Typing.{Kinds, Maps, Types, TypesEach, TypesTarget, constant_type, has_target, locals_in, maps_of, most_locals}
+use Rattle.cel_types.specs.TypingFaults.{AreGot, CallsFault, IdentFault, ItemTypes, KeyTypes, ListFault, LoopFault, MapsFault, NodeTypeFault, SelectFault, SomeTypes}
 
 -- the id of the root
 abbrev pub id_of : CelTree → ℤ
@@ -24,8 +24,8 @@ id_of (comprehension id x y acc range init condition step result) = id
 
 -- a fault of the node itself, or of its type entry, whatever the expressions inside have
 abbrev pub OwnFault : Maps → Kinds → CelTree → Refusal → Type 0
-OwnFault m ks (constant id v) e =
-    UnsupportedConstant v e ⊎ NodeTypeFault (get m.types id) (Types m ks (constant id v)) e
+OwnFault m ks (constant id v) e = ((constant_type v ≡ None) × (e ≡ Unsupported))
+    ⊎ NodeTypeFault (get m.types id) (Types m ks (constant id v)) e
 OwnFault m ks (ident id name) e = IdentFault (get m.refs id) ks name e
     ⊎ ((bare_root name ks ≡ false)
     × NodeTypeFault (get m.types id) (Types m ks (ident id name)) e)

@@ -13,7 +13,7 @@ use Rattle.cel_types.specs.Typing.{IsOver, Kinds, ListRule, MapRule, Maps, Selec
 use Rattle.cel_types.specs.TypingFaults.{ItemTypes, KeyTypes, SomeTypes, ElementsFault, NodeTypeFault, IdentFault, ListFault, MapsFault, PairFault, PairsFault, SelectFault, SomeFault, TargetFault, TypeFault, CallsFault}
 use Rattle.cel_types.specs.TypingFaults.{unsupported_kind, another_type, in_range, in_init, in_turn, in_result}
 use Rattle.cel_types.specs.private.Agreeing.{EachAgrees, EntriesAgree, EntryAgrees, NameAgrees, PairsAgree, SelectAgrees, TargetAgrees}
-use Rattle.cel_types.proofs.OneType.{OneAtMost, one_type, over_one}
+use Rattle.cel_types.proofs.OneType.{OneAtMost, one_type, over_one, select_operand}
 use Rattle.cel_types.proofs.Total.{ref_decided, same_type, type_total, typed_no_root}
 
 -- it holds, or there is a fault
@@ -60,7 +60,8 @@ select_kept ref (Some root) Operand InOperand Inside field false t rule inside =
           inr (BadReference, SelectFault.other_reference root t refl refl rule differs refl)
     ]
 select_kept ref None Operand InOperand Inside field test_only t rule inside =
-    elim (inside (map_type keys.Text rule.0) rule.1) [
+    let on = select_operand Operand field test_only t rule in
+    elim (inside (map_type keys.Text on.0) on.1) [
       | inl agrees ↦ inl agrees
       | inr (e, f) ↦ inr (e, SelectFault.in_operand refl f)
     ]

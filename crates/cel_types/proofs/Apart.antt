@@ -16,7 +16,7 @@ use Rattle.cel_types.specs.Typing.{IsList, IsMap, IsOver, Kinds, ListRule, LoopR
 use Rattle.cel_types.specs.TypingFaults.{AreGot, CallsFault, ElementsFault, EmptyFault, NodeTypeFault, IdentFault, ItemTypes, KeyTypes, ListFault, LoopFault, MapsFault, PairFault, PairsFault, SelectFault, SomeFault, SomeTypes, TargetFault, TypeFault}
 use Rattle.cel_types.specs.TypingFaults.{unsupported_kind, another_type, unstated, of_another_kind, in_names, no_elements, no_condition, no_step, in_range, in_init, in_turn, in_result}
 use Rattle.cel_types.specs.private.Agreeing.{CallRule, EachAgrees, EntriesAgree, EntryAgrees, IdentRule, NameAgrees, PairsAgree, SelectAgrees, TargetAgrees, TypeAgrees}
-use Rattle.cel_types.proofs.OneType.{OneAtMost, given_one, one_each, one_target, one_type, over_one}
+use Rattle.cel_types.proofs.OneType.{OneAtMost, given_one, one_each, one_target, one_type, over_one, select_operand}
 
 entry_apart : (entry : Option CelTypeEntry) (Has : ValueType → Type 0) (t : ValueType)
     (e : Refusal) → Has t → EntryAgrees entry Has → NodeTypeFault entry Has e → ⊥
@@ -66,9 +66,11 @@ module _ (ref : Option CelReference) (Operand : ValueType → Type 0) (InOperand
   select_apart None test_only rule agrees
       (SelectFault.other_reference r u is test named differs _) = none-some r is
   select_apart None test_only rule agrees (SelectFault.no_names s is operand never _) =
-      never rule.0 (one s (map_type keys.Text rule.0) operand rule.1)
+      let on = select_operand Operand field test_only t rule in
+      never on.0 (one s (map_type keys.Text on.0) operand on.1)
   select_apart None test_only rule agrees (SelectFault.in_operand is inside) =
-      apart (map_type keys.Text rule.0) e rule.1 agrees inside
+      let on = select_operand Operand field test_only t rule in
+      apart (map_type keys.Text on.0) e on.1 agrees inside
 
 call_apart : (name : List ℕ) (on : Bool) (Operands : List ValueType → Type 0)
     (InOperands : Refusal → Type 0) (t : ValueType) (e : Refusal) → OneAtMost Operands

@@ -59,10 +59,10 @@ select_has m ks id operand field false s inside g (Some root) is rule =
     let a = mapped attribute_type (attribute_named (joined_name root field)) s rule in
     (typed_attribute s a.0, (g, root, is, a.1), refl)
 select_has m ks id operand field true s inside g None is rule =
-    let on = inside (map_type keys.Text rule.0) rule.1 in
+    let on = inside (map_type keys.Text rule.0.0) rule.0.1 in
     (typed_has s on.0 field, (g, refl, is, refl, on.1), refl)
 select_has m ks id operand field false s inside g None is rule =
-    let on = inside (map_type keys.Text rule.0) rule.1 in
+    let on = inside (map_type keys.Text s) rule in
     (typed_field s on.0 field, (g, refl, is, refl, on.1), refl)
 
 mutual

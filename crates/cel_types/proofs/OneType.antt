@@ -29,10 +29,15 @@ pub select_one : (root : Option (List ℕ)) (Operand : ValueType → Type 0) (fi
     (test_only : Bool) → OneAtMost Operand → OneAtMost (SelectRule root Operand field test_only)
 select_one (Some root) Operand field true one a b g h = absurd g
 select_one (Some root) Operand field false one a b g h = one_some _ a b g h
-select_one None Operand field test_only one a b g h =
-    let same : map_type keys.Text g.0 ≡ map_type keys.Text h.0 = one _ _ g.1 h.1 in
-    let values : g.0 ≡ h.0 = cc in
-    g.2 ∙ rw values refl ∙ sym h.2
+select_one None Operand field true one a b g h = g.1 ∙ sym h.1
+select_one None Operand field false one a b g h =
+    let same : map_type keys.Text a ≡ map_type keys.Text b = one _ _ g h in cc
+
+-- the operand of a Select that is no attribute is a map from texts
+pub select_operand : (Operand : ValueType → Type 0) (field : List ℕ) (test_only : Bool) (t : ValueType)
+    → SelectRule None Operand field test_only t → (s : ValueType) × Operand (map_type keys.Text s)
+select_operand Operand field true t rule = rule.0
+select_operand Operand field false t rule = (t, rule)
 
 pub call_one : (name : List ℕ) (on : Bool) (Operands : List ValueType → Type 0) → OneAtMost Operands
     → OneAtMost (CallRule name on Operands)

@@ -20,10 +20,10 @@ use Rattle.attributes.specs.declared.attribute.AttrId.{AttrId}
 use Rattle.cel_ops.specs.Attributes.{attribute_type}
 use Rattle.cel_types.specs.Attributes.{attribute_named}
 use Rattle.cel_types.specs.Names.{bare_root, is_root, joined_name, local, root_of, turn_scope, variables_of}
-use Rattle.cel_types.specs.Typing.{IsList, IsMap, IsOver, Kinds, ListRule, LoopRule, MapRule, Maps, NamesFault, RefAgrees, SelectRule, Types, TypesAll, TypesEach, TypesPairs, TypesTarget, constant_type, field_type, has_target, name_type}
-use Rattle.cel_types.specs.TypingFaults.{CallsFault, UnsupportedConstant, ElementsFault, EmptyFault, NodeTypeFault, IdentFault, ItemTypes, KeyTypes, ListFault, LoopFault, MapsFault, PairFault, PairsFault, SelectFault, SomeFault, SomeTypes, TargetFault, TypeFault}
+use Rattle.cel_types.specs.Typing.{IsList, IsMap, IsOver, Kinds, ListRule, LoopRule, MapRule, Maps, NamesFault, RefAgrees, SelectRule, Types, TypesAll, TypesEach, TypesPairs, TypesTarget, constant_type, has_target, name_type}
+use Rattle.cel_types.specs.TypingFaults.{CallsFault, ElementsFault, EmptyFault, NodeTypeFault, IdentFault, ItemTypes, KeyTypes, ListFault, LoopFault, MapsFault, PairFault, PairsFault, SelectFault, SomeFault, SomeTypes, TargetFault, TypeFault}
 use Rattle.cel_types.specs.TypingFaults.{unsupported_kind, unstated, of_another_kind, in_names, no_elements, no_condition, no_step, in_range, in_init, in_turn, in_result}
-use Rattle.cel_types.specs.private.Agreeing.{CallRule, IdentRule, NamesDiffer, RefDiffers}
+use Rattle.cel_types.specs.private.Agreeing.{CallRule, IdentRule, NamesDiffer, RefDiffers, UnsupportedConstant}
 use Rattle.cel_types.specs.declared.typed.Variables.{Variables}
 use Rattle.cel_types.specs.declared.typed.Variables.TheVariants as variables
 
@@ -108,9 +108,14 @@ select_total ref (Some root) Operand InOperand field false inside =
 select_total ref None Operand InOperand field test_only (inr (e, f)) =
     inr (e, SelectFault.in_operand refl f)
 select_total ref None Operand InOperand field test_only (inl (s, h)) = elim (names_of s) [
-  | inl (t, is) ↦ inl (field_type test_only t, (t, subst Operand is h, refl))
+  | inl (t, is) ↦ inl (named test_only t (subst Operand is h))
   | inr never ↦ inr (NoOverload, SelectFault.no_names s refl h never refl)
 ]
+  where
+    named : (test_only : Bool) (t : ValueType) → Operand (map_type keys.Text t)
+        → (u : ValueType) × SelectRule None Operand field test_only u
+    named true t on = (bool_type, ((t, on), refl))
+    named false t on = (t, on)
 
 call_decided : (name : List ℕ) (on : Bool) (Operands : List ValueType → Type 0)
     (InOperands : Refusal → Type 0)

@@ -155,7 +155,7 @@ has_method = inl (SelectFault.asked (codes "request") refl refl refl)
 
 hidden_root : Types (with_types []) ((codes "request", map_type keys.Text int_type) ∷ []) method
     int_type
-hidden_root = (int_type, refl, refl)
+hidden_root = refl
 
 -- a reference that names another attribute is 12
 

@@ -17,7 +17,7 @@ use Rattle.cel_types.specs.Attributes.{attribute_named}
 use Rattle.cel_types.specs.Elaborated.{Elaborates, ElaboratesEach, ElaboratesPairs, ElaboratesTarget, TypedTree, TypedTrees, kind, kinds, no_typed, slot, typed, typed_attribute, typed_call, typed_constant, typed_field, typed_has, typed_list, typed_local, typed_loop, typed_map}
 use Rattle.cel_types.specs.Names.{Scope, joined_name, local, turn_scope, variables_of}
 use Rattle.cel_types.specs.TypedMeaning.{local_at}
-use Rattle.cel_types.specs.Typing.{IsList, IsMap, IsOver, Kinds, ListRule, MapRule, Maps, SelectRule, Types, TypesAll, TypesPairs, constant_type, field_type, name_type}
+use Rattle.cel_types.specs.Typing.{IsList, IsMap, IsOver, Kinds, ListRule, MapRule, Maps, SelectRule, Types, TypesAll, TypesPairs, constant_type, name_type}
 use Rattle.cel_types.specs.WellTyped.{AreAll, AreKeyed, AreWellTyped, IsWellTyped}
 use Rattle.cel_types.specs.declared.typed.Variables.{Variables}
 use Rattle.cel_types.proofs.OneType.{one_type, over_one}
@@ -222,17 +222,17 @@ mutual
       select_attribute g.1 field (Types m ks operand) test_only t a
       (subst (λ o. SelectRule o (Types m ks operand) field test_only t) g.2 g.0) g.3
   elaborated_typed m ks (select id operand field test_only) (typed_field t on name) good g =
-      let rule = subst (λ o. SelectRule o (Types m ks operand) field test_only t) g.2 g.0 in
-      let values : t ≡ rule.0 = rule.2 ∙ ap (λ b. field_type b rule.0) g.1 in (
+      let rule = subst (λ b. SelectRule None (Types m ks operand) field b t) g.1
+      (subst (λ o. SelectRule o (Types m ks operand) field test_only t) g.2 g.0) in (
         elaborated_typed m ks operand on good g.4,
-        elaborated_type m ks operand on (map_type keys.Text rule.0) g.4 rule.1
-            ∙ ap (map_type keys.Text) (sym values),
+        elaborated_type m ks operand on (map_type keys.Text t) g.4 rule,
       )
   elaborated_typed m ks (select id operand field test_only) (typed_has t on name) good g =
-      let rule = subst (λ o. SelectRule o (Types m ks operand) field test_only t) g.2 g.0 in (
+      let rule = subst (λ b. SelectRule None (Types m ks operand) field b t) g.1
+      (subst (λ o. SelectRule o (Types m ks operand) field test_only t) g.2 g.0) in (
         elaborated_typed m ks operand on good g.4,
-        (rule.0, elaborated_type m ks operand on (map_type keys.Text rule.0) g.4 rule.1),
-        rule.2 ∙ ap (λ b. field_type b rule.0) g.1,
+        (rule.0.0, elaborated_type m ks operand on (map_type keys.Text rule.0.0) g.4 rule.0.1),
+        rule.1,
       )
   elaborated_typed m ks (select id operand field test_only) _ good g = absurd g
   elaborated_typed m ks (call id name on args) (typed_call t o operands) good g = (

@@ -57,19 +57,15 @@ abbrev pub name_type : List ℕ → Option ValueType → Option ValueType
 name_type name (Some t) = Some t
 name_type name None = option_map attribute_type (attribute_named name)
 
--- the type of a Select of a map whose values have type `t`: bool for a test
-abbrev pub field_type : (test_only : Bool) → ValueType → ValueType
-field_type true t = bool_type
-field_type false t = t
-
--- the type of a Select is that of a root's attribute, or depends on its operand, a map from texts
+-- the type of a Select is that of a root's attribute. Otherwise the operand is a map from texts, and the type is that of
+-- its values, or bool for a test
 abbrev pub SelectRule : Option (List ℕ) → (Operand : ValueType → Type 0) → List ℕ → Bool
     → ValueType → Type 0
 SelectRule (Some root) Operand field true t = ⊥
 SelectRule (Some root) Operand field false t =
     option_map attribute_type (attribute_named (joined_name root field)) ≡ Some t
-SelectRule None Operand field test_only t = (s : ValueType)
-    × Operand (map_type keys.Text s) × (t ≡ field_type test_only s)
+SelectRule None Operand field true t = ((s : ValueType) × Operand (map_type keys.Text s)) × (t ≡ bool_type)
+SelectRule None Operand field false t = Operand (map_type keys.Text t)
 
 -- whether the call has a target
 abbrev pub has_target : CelTarget → Bool

@@ -7,7 +7,6 @@ use Rattle.std.specs.FinMap.{get}
 use Rattle.proto_wire.specs.declared.refusal.Refusal.{Refusal}
 use Rattle.proto_wire.specs.declared.refusal.Refusal.TheVariants.{BadReference, BadTypeEntry, NeedsType, NoOverload, TooLarge, Unsupported, UnknownName}
 use Rattle.cel_value.specs.Types.{ValueType, bool_type, map_type, type_of_key}
-use Rattle.cel_value.specs.Values.{CelValue}
 use Rattle.cel_value.specs.declared.cel_type.KeyType.{KeyType}
 use Rattle.cel_value.specs.declared.cel_type.KeyType.TheVariants as keys
 use Rattle.cel_tree.specs.Checked.{CelChecked, CelReference, CelTypeEntry, of_type, dyn_type, unsupported_type}
@@ -39,10 +38,6 @@ pub data EmptyFault (entry : Option CelTypeEntry) (IsKind : ValueType → Type 0
         → e ≡ BadTypeEntry → EmptyFault entry IsKind e
 
 -- ---- nodes
-
--- the constant is of an unsupported kind
-abbrev pub UnsupportedConstant : CelValue → Refusal → Type 0
-UnsupportedConstant v e = (constant_type v ≡ None) × (e ≡ Unsupported)
 
 -- a fault of an Ident: it is neither a local nor an attribute, or its reference entry differs
 pub data IdentFault (ref : Option CelReference) (ks : Kinds) (name : List ℕ) (e : Refusal) : Type 0
@@ -150,8 +145,8 @@ ItemTypes m ks (tree_entry id key value es) t = Types m ks value t ⊎ ItemTypes
 abbrev mutual
   -- a fault of the node, of its type entry, or of an expression inside
   pub TypeFault : Maps → Kinds → CelTree → Refusal → Type 0
-  TypeFault m ks (constant id v) e =
-      UnsupportedConstant v e ⊎ NodeTypeFault (get m.types id) (Types m ks (constant id v)) e
+  TypeFault m ks (constant id v) e = ((constant_type v ≡ None) × (e ≡ Unsupported))
+      ⊎ NodeTypeFault (get m.types id) (Types m ks (constant id v)) e
   TypeFault m ks (ident id name) e = IdentFault (get m.refs id) ks name e
       ⊎ ((bare_root name ks ≡ false)
       × NodeTypeFault (get m.types id) (Types m ks (ident id name)) e)

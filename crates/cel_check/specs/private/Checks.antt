@@ -72,11 +72,6 @@ abbrev pub IsCalled : List ℕ → Bool → TypedTrees → TypedTree → Type 0
 IsCalled name on operands e = (o : Overload) × (t : ValueType)
     × IsCall name on (kinds operands) o t × (e ≡ typed_call t o operands)
 
--- a name of a comprehension is empty, or two are the same
-abbrev pub NamesFault : (x y acc : List ℕ) → Refusal → Type 0
-NamesFault x y acc e = ((x ≡ []) × (e ≡ Missing)) ⊎ (((acc ≡ []) × (e ≡ Missing))
-    ⊎ (((x ≡ acc) × (e ≡ OutOfRange)) ⊎ ((y ≢ []) × ((x ≡ y) ⊎ (y ≡ acc)) × (e ≡ OutOfRange))))
-
 -- these are the elaborations of the condition, a bool, and of the step, of the accumulator's type
 abbrev pub IsTurn : Maps → Kinds → (condition step : CelTree) → (gathered : ValueType)
     → TypedTree → TypedTree → Type 0

@@ -3,7 +3,7 @@ use Rattle.std.specs.Prelude.{◌≡◌, ◌≢◌, ◌⊎◌, ◌&&◌, ◌++�
 use Rattle.cel_overload.specs.Functions.{function_named}
 use Rattle.cel_overload.specs.Overloads.{CallFault}
 use Rattle.cel_overload.specs.declared.overload.OverloadFault.TheVariants as calls
-use Rattle.cel_tree.specs.Checked.{CelTypeEntry, unsupported_type}
+use Rattle.cel_tree.specs.Checked.{CelTypeEntry, dyn_type, of_type, unsupported_type}
 use Rattle.cel_value.specs.Types.{ValueType, bool_type, list_type, map_type, type_eq, type_of_key, type_view}
 use Rattle.cel_value.specs.declared.cel_type.CelType.{CelType}
 use Rattle.cel_value.specs.declared.cel_type.KeyType.{KeyType}
@@ -35,7 +35,7 @@ NoElements vars t e = ((each : List ValueType) → IsOver vars t each → ⊥) �
 
 -- the entry gives no type, or an unsupported one
 abbrev pub NotGiven : Option CelTypeEntry → Refusal → Type 0
-NotGiven entry e = (SaysNothing entry × (e ≡ NeedsType))
+NotGiven entry e = (((entry ≡ None) ⊎ (entry ≡ Some dyn_type)) × (e ≡ NeedsType))
     ⊎ ((entry ≡ Some unsupported_type) × (e ≡ Unsupported))
 
 -- the entry of an empty literal has a fault, or gives an unsupported type
@@ -45,7 +45,7 @@ NotStated entry IsKind e = EmptyFault entry IsKind e
 
 -- a list literal with elements of these types has the type
 abbrev pub IsListOf : Option CelTypeEntry → List ValueType → ValueType → Type 0
-IsListOf entry [] t = TypeGiven entry t × IsList t
+IsListOf entry [] t = (entry ≡ Some (of_type t)) × IsList t
 IsListOf entry (s ∷ ss) t = (in_turn s s ss ≡ true) × (t ≡ list_type s)
 
 -- the fault of a list literal with elements of these types
@@ -56,8 +56,8 @@ NoListOf entry (s ∷ ss) e = (in_turn s s ss ≡ false) × (e ≡ NoOverload)
 -- a map literal with keys and values of these types, in turn, has the type. One type alone does not
 -- occur, since each key has a value
 abbrev pub IsMapOf : Option CelTypeEntry → List ValueType → ValueType → Type 0
-IsMapOf entry [] t = TypeGiven entry t × IsMap t
-IsMapOf entry (r ∷ []) t = TypeGiven entry t × IsMap t
+IsMapOf entry [] t = (entry ≡ Some (of_type t)) × IsMap t
+IsMapOf entry (r ∷ []) t = (entry ≡ Some (of_type t)) × IsMap t
 IsMapOf entry (r ∷ s ∷ ss) t = (in_turn r s ss ≡ true) × (k : KeyType) × (r ≡ type_of_key k)
     × (t ≡ map_type k s)
 

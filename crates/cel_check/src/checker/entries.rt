@@ -2,6 +2,7 @@
 
 ghost use Rattle.std.specs.Prelude.{◌≡◌, ◌↔◌, IfErr, IfOk, IsTrue, OnOk, Some, option_map};
 ghost use Rattle.std.specs.Str.{bytes_eq};
+ghost use Rattle.cel_tree.specs.Checked.{of_type};
 ghost use Rattle.cel_tree.specs.View.{name_view, reference_view, type_entry_view};
 ghost use Rattle.cel_value.specs.Texts.{points_of};
 ghost use Rattle.cel_value.specs.Types.{type_view};
@@ -84,8 +85,8 @@ fn is_name(kept: &Option<ArcStr>, name: &str) -> bool
 
 /// The type in the entry of an empty literal; refuses an entry that gives none.
 pub(super) fn type_given(entry: Option<&TypeEntry>) -> Result<&CelType, Refusal>
-    ensures found { IfOk result (λ t. TypeGiven (option_map (λ e. type_entry_view e.now) entry.entry)
-        (type_view t.now)) }
+    ensures found { IfOk result (λ t. option_map (λ e. type_entry_view e.now) entry.entry
+        ≡ Some (of_type (type_view t.now))) }
     ensures fault { IfErr result (NotGiven (option_map (λ e. type_entry_view e.now) entry.entry)) }
 {
     match entry {

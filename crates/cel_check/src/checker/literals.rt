@@ -1,6 +1,7 @@
 //! Types of list and map literals.
 
-ghost use Rattle.std.specs.Prelude.{◌≡◌, IfErr, IfOk, option_map};
+ghost use Rattle.std.specs.Prelude.{◌≡◌, IfErr, IfOk, Some, option_map};
+ghost use Rattle.cel_tree.specs.Checked.{of_type};
 ghost use Rattle.cel_tree.specs.View.{type_entry_view};
 ghost use Rattle.cel_value.specs.Types.{type_view};
 ghost use Rattle.cel_types.specs.Elaborated.{kinds};
@@ -41,8 +42,8 @@ pub(super) fn list_type(
 
 /// The type of an empty list: its entry's, which has to be a list.
 fn empty_list(entry: Option<&TypeEntry>) -> Result<&CelType, Refusal>
-    ensures found { IfOk result (λ t. TypeGiven (option_map (λ e. type_entry_view e.now) entry.entry)
-        (type_view t.now) × IsList (type_view t.now)) }
+    ensures found { IfOk result (λ t. (option_map (λ e. type_entry_view e.now) entry.entry
+        ≡ Some (of_type (type_view t.now))) × IsList (type_view t.now)) }
     ensures fault { IfErr result (NotStated (option_map (λ e. type_entry_view e.now) entry.entry) IsList) }
 {
     let given = type_given(entry)?;
@@ -74,8 +75,8 @@ pub(super) fn map_type(
 
 /// The type of an empty map: its entry's, which has to be a map.
 fn empty_map(entry: Option<&TypeEntry>) -> Result<&CelType, Refusal>
-    ensures found { IfOk result (λ t. TypeGiven (option_map (λ e. type_entry_view e.now) entry.entry)
-        (type_view t.now) × IsMap (type_view t.now)) }
+    ensures found { IfOk result (λ t. (option_map (λ e. type_entry_view e.now) entry.entry
+        ≡ Some (of_type (type_view t.now))) × IsMap (type_view t.now)) }
     ensures fault { IfErr result (NotStated (option_map (λ e. type_entry_view e.now) entry.entry) IsMap) }
 {
     let given = type_given(entry)?;

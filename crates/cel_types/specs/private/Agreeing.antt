@@ -2,15 +2,22 @@
 -- faults that proofs name.
 use Rattle.std.specs.Prelude.{◌≡◌, ◌≢◌, ◌≤◌, ℕ, Bool, List, [], ◌∷◌, Option, Some, None}
 use Rattle.std.specs.FinMap.{get}
+use Rattle.proto_wire.specs.declared.refusal.Refusal.{Refusal}
+use Rattle.proto_wire.specs.declared.refusal.Refusal.TheVariants.{Unsupported}
 use Rattle.cel_value.specs.Types.{ValueType}
+use Rattle.cel_value.specs.Values.{CelValue}
 use Rattle.cel_tree.specs.Checked.{CelChecked, CelReference, CelTypeEntry, of_type, dyn_type, unsupported_type}
 use Rattle.cel_tree.specs.Tree.{CelTree, constant, ident, select, call, list_literal, map_literal, comprehension, CelTarget, no_target, target, CelTrees, no_trees, tree, CelTreeEntries, no_tree_entries, tree_entry}
 use Rattle.cel_overload.specs.Overloads.{IsCall}
 use Rattle.cel_overload.specs.declared.overload.Overload.{Overload}
 use Rattle.cel_types.specs.Names.{joined_name, local, root_of, turn_scope, variables_of}
-use Rattle.cel_types.specs.Typing.{IsOver, Kinds, Maps, RefAgrees, Types, locals_in, maps_of, most_locals, name_type}
+use Rattle.cel_types.specs.Typing.{IsOver, Kinds, Maps, RefAgrees, Types, constant_type, locals_in, maps_of, most_locals, name_type}
 
 -- ---- rules
+
+-- the constant is of an unsupported kind
+abbrev pub UnsupportedConstant : CelValue → Refusal → Type 0
+UnsupportedConstant v e = (constant_type v ≡ None) × (e ≡ Unsupported)
 
 -- the type of an Ident is that of its name
 abbrev pub IdentRule : Kinds → List ℕ → ValueType → Type 0

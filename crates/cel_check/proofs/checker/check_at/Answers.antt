@@ -1,5 +1,7 @@
 use Rattle.std.proofs.Common.{[]}
 use Rattle.cel_tree.specs.View.{checked_view, tree_view}
+use Rattle.cel_types.proofs.CheckLaws.{agreeing_typed}
+use Rattle.cel_types.specs.Elaborated.{kind}
 use Rattle.cel_types.specs.Typing.{maps_of}
 use Rattle.cel_types.specs.View.{expr_view}
 use Rattle.proto_wire.specs.Places.{FaultOr}
@@ -18,12 +20,12 @@ returns-clause-found c =
     let found : IsFound (maps_of (checked_view c.args.checked.now)) [] (tree_view c.args.checked.now.tree)
     (expr_view c.in_ok-root.root) = rw view_empty at c.in_ok-root.ensures.found in
     record {
-      typed = record {
+      typed = agreeing_typed (checked_view c.args.checked.now) (kind (expr_view c.in_ok-root.root)) (record {
         few = c.in_default.ensures.found;
         types = types_of (maps_of (checked_view c.args.checked.now)) [] (tree_view c.args.checked.now.tree)
             (expr_view c.in_ok-root.root) found.0;
         entries = found.1;
-      };
+      });
       elaborates = found.0;
     }
 

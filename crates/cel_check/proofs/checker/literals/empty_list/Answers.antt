@@ -1,11 +1,10 @@
 use Rattle.std.proofs.Common.{inl}
 use Rattle.cel_tree.proofs.Readers.{exit_plain}
 use Rattle.cel_types.specs.TypingFaults.{of_another_kind}
-use Rattle.cel_check.proofs.CheckSteps.{given_is}
 use Rattle.cel_check.proofs.checker.literals.empty_list.Goals as goal
 
 pub returns-in_err-require_list-clause-fault : goal.returns-in_err-require_list-clause-fault
 returns-in_err-require_list-clause-fault c =
     let wrong = c.in_err-require_list.ensures.fault in
     exit_plain _ c.from_residual-in_err-require_list.result _ c.from_residual-in_err-require_list.ensures.1
-    (inl (of_another_kind _ (given_is _ _ c.in_ok-given.ensures.found) wrong.0 wrong.1))
+    (inl (of_another_kind _ c.in_ok-given.ensures.found wrong.0 wrong.1))
