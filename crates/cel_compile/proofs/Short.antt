@@ -9,9 +9,10 @@ use Rattle.cel_tree.specs.Checked.{CelChecked}
 use Rattle.cel_tree.specs.Message.{ExprParts, IsExprOf, checked_parts, most_nodes, unchecked_parts}
 use Rattle.cel_tree.specs.Tree.{CelTree, constant, ident, select, call, list_literal, map_literal, comprehension, CelTarget, no_target, target, CelTrees, no_trees, tree, CelTreeEntries, no_tree_entries, tree_entry}
 use Rattle.cel_tree.specs.Trees.{entries_count, node_count, target_count, trees_count}
-use Rattle.cel_types.specs.Elaborated.{Elaborates, ElaboratesEach, ElaboratesPairs, ElaboratesTarget, IsElaborated, TypedTree, TypedTrees, no_typed, typed, typed_attribute, typed_call, typed_constant, typed_field, typed_has, typed_list, typed_local, typed_loop, typed_map}
+use Rattle.cel_types.specs.Elaborated.{Elaborates, ElaboratesEach, ElaboratesPairs, ElaboratesTarget, IsElaborated, TypedTree, TypedTrees, kind, no_typed, typed, typed_attribute, typed_call, typed_constant, typed_field, typed_has, typed_list, typed_local, typed_loop, typed_map}
 use Rattle.cel_types.specs.Names.{variable_count, variables_of}
 use Rattle.cel_types.specs.Typing.{Kinds, Maps, locals_in, locals_in_each, locals_in_entries, locals_in_target, maps_of}
+use Rattle.cel_types.proofs.CheckLaws.{typed_agreeing}
 use Rattle.proto_wire.specs.Refusal.{MemoryOr}
 use Rattle.proto_wire.specs.declared.refusal.Refusal.{Refusal}
 use Rattle.proto_wire.specs.declared.refusal.Refusal.TheVariants.{Memory, TooLarge}
@@ -194,7 +195,7 @@ pub fitting_code : (parts : ExprParts) (c : CelChecked) (e : TypedTree) → IsEx
 fitting_code parts c e read is =
     let short = short_code c e 0 0 is in
     let nodes = few_nodes parts c read in
-    let locals = is.typed.few in
+    let locals = (typed_agreeing c (kind e) is.typed).few in
     (omega (arith, short, nodes), few (maps_of c) [] c.tree e 0 is.elaborates (omega (arith, locals)))
 
 -- the number of instructions is the extent

@@ -96,8 +96,8 @@ module _ (x y acc : List ℕ) (Range Init : ValueType → Type 0)
     (Condition Step : List ValueType → ValueType → ValueType → Type 0)
     (InRange InInit : Refusal → Type 0) (InTurn : List ValueType → ValueType → Refusal → Type 0)
     (InResult : ValueType → Refusal → Type 0) (e : Refusal) where
-  -- a fault of a comprehension: of its names; or the range has no elements, the condition is not a bool, the step
-  -- is not of the accumulator's type, or a part has a fault
+  -- a fault of a comprehension: of its names; the range has no elements, the condition is not a bool, the step is not
+  -- of the accumulator's type; or a part has a fault
   pub data LoopFault : Type 0 where
     in_names : NamesFault x y acc e → LoopFault
     no_elements : (s : ValueType) → Range s → ((each : List ValueType) → IsOver (variables_of y) s each → ⊥)
@@ -197,7 +197,8 @@ pub data CheckFault (c : CelChecked) (e : Refusal) : Type 0 where
   too_many_locals : most_locals < locals_in c.tree → e ≡ TooLarge → CheckFault c e
   untyped : TypeFault (maps_of c) [] c.tree e → CheckFault c e
 
--- the checked expression has the type by the rules, and no fault: not of an entry of its maps, nor of its number of locals
+-- the checked expression has the type by the rules, and no fault. That is, its entries agree, and no node has too many
+-- locals in scope
 pub record IsTyped (c : CelChecked) (t : ValueType) : Type 0 where
   pub types : Types (maps_of c) [] c.tree t
   pub faultless : (e : Refusal) → CheckFault c e → ⊥

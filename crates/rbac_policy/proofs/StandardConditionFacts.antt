@@ -31,6 +31,7 @@ use Rattle.cel_types.specs.Elaborated.{IsElaborated, TypedTree, no_typed, typed,
 use Rattle.cel_types.specs.Meaning.{eval}
 use Rattle.cel_types.specs.Typing.{Types, locals_in, maps_of}
 use Rattle.cel_types.specs.private.Agreeing.{TypeAgrees}
+use Rattle.cel_types.proofs.CheckLaws.{agreeing_typed}
 use Rattle.rbac_match.specs.Formula.{any, end, formula}
 use Rattle.rbac_match.specs.declared.rule.Side.TheVariants.{Permission, Principal}
 use Rattle.rbac_policy.specs.Admission.{IsAdmissibleAs}
@@ -339,7 +340,7 @@ agrees id t = subst (λ o. TypeAgrees o t) (sym (nothing_at CelTypeEntry id)) tt
 
 is_elaborated : IsElaborated condition elaborated
 is_elaborated = record {
-  typed = record {
+  typed = agreeing_typed condition bool_type (record {
     few = (let none : locals_in condition.tree ≡ 0 = refl in omega (arith, none));
     types = has_type;
     entries = (
@@ -347,7 +348,7 @@ is_elaborated = record {
       tt,
       (λ t has. agrees (pos 1) t, (λ t has. agrees (pos 3) t, tt)),
     );
-  };
+  });
   elaborates = (
     has_type,
     (functions.And, refl, record { function = refl; shape = refl; operands = (refl, refl) }),
