@@ -96,8 +96,8 @@ module _ (x y acc : List ℕ) (Range Init : ValueType → Type 0)
     (Condition Step : List ValueType → ValueType → ValueType → Type 0)
     (InRange InInit : Refusal → Type 0) (InTurn : List ValueType → ValueType → Refusal → Type 0)
     (InResult : ValueType → Refusal → Type 0) (e : Refusal) where
-  -- a fault of a comprehension: of its names; the range has no elements, the condition is not a bool, the step is not
-  -- of the accumulator's type; or a part has a fault
+  -- a fault of a comprehension: of its names or of a part, or its range has no elements. Or the condition is not a
+  -- bool, or the step is not of the accumulator's type
   pub data LoopFault : Type 0 where
     in_names : NamesFault x y acc e → LoopFault
     no_elements : (s : ValueType) → Range s → ((each : List ValueType) → IsOver (variables_of y) s each → ⊥)
