@@ -13,7 +13,7 @@ use Rattle.cel_tree.specs.Tree.{CelTree, constant, ident, select, call, list_lit
 use Rattle.cel_types.specs.Names.{turn_scope}
 use Rattle.cel_types.specs.Typing.{Kinds, Maps, Types, maps_of}
 use Rattle.cel_types.specs.TypingFaults.{CallsFault, CheckFault, ElementsFault, ItemTypes, KeyTypes, ListFault, LoopFault, MapsFault, PairFault, PairsFault, SelectFault, SomeFault, SomeTypes, TargetFault, TypeFault}
-use Rattle.cel_types.specs.TypingFaults.{no_element_name, no_accumulator_name, one_name, one_variable, second_accumulator, no_elements, no_condition, no_step as faulty_step, in_range, in_init, in_turn as faulty_turn, in_result}
+use Rattle.cel_types.specs.TypingFaults.{in_names, no_elements, no_condition, no_step as faulty_step, in_range, in_init, in_turn as faulty_turn, in_result}
 use Rattle.cel_types.specs.TypingFaults as faults
 use Rattle.cel_check.specs.Places.{OwnFault, TypeFaultAt, TargetFaultAt, SomeFaultAt, PairFaultAt, CheckFaultAt, too_many_locals, untyped, id_of}
 use Rattle.cel_check.specs.private.Checks.{InsideAt, PlacedInside}
