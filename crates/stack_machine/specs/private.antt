@@ -1,11 +1,11 @@
 -- Definitions that only clauses of private functions and proofs use.
-pub mod Held
+pub mod Operands
 pub mod Loops
 pub mod Pairs
 pub mod StateView
 pub mod Groups
-pub mod Few
-pub mod Leaps
+pub mod EarlyStates
+pub mod LoopTurns
 pub mod Rarer
 pub mod Reached
-pub mod Seen
+pub mod Borrowed

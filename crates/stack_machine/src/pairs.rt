@@ -5,10 +5,10 @@ ghost use Rattle.cel_value.specs.View.{answer_view, entries_view, map_view, pair
 ghost use Rattle.cel_ops.specs.Arithmetic.{int_answer};
 ghost use Rattle.cel_ops.specs.Attributes.{header_entries};
 ghost use Rattle.cel_ops.specs.Collections.{keyed, numbered};
-ghost use Rattle.stack_machine.specs.private.Held.{held_view};
+ghost use Rattle.stack_machine.specs.private.Operands.{operand_view};
 ghost use Rattle.stack_machine.specs.private.Pairs.{pair_answers, pair_view};
 
-use crate::held::Held;
+use crate::operand::Operand;
 use attributes::Headers;
 use cel_value::{CelError, Key, Map, Value};
 use std::alloc::AllocError;
@@ -18,7 +18,7 @@ use std::sync::ArcStr;
 pub(crate) fn item_pair<'a>(
     items: &[Value],
     index: usize,
-) -> Result<Option<(Held<'a>, Held<'a>)>, AllocError>
+) -> Result<Option<(Operand<'a>, Operand<'a>)>, AllocError>
     ensures { IfOk result (λ found. option_map pair_view found
         ≡ option_map pair_answers (slice_get (numbered zero (values_view items.now)) index)) }
 {
@@ -31,24 +31,24 @@ pub(crate) fn item_pair<'a>(
 
 /// An item of a list, as a result.
 #[inline(always)]
-pub(crate) fn hold_item<'a>(item: &Value) -> Result<Held<'a>, AllocError>
-    ensures { IfOk result (λ held. held_view held ≡ answer_view (Ok item.now)) }
+pub(crate) fn hold_item<'a>(item: &Value) -> Result<Operand<'a>, AllocError>
+    ensures { IfOk result (λ operand. operand_view operand ≡ answer_view (Ok item.now)) }
 {
     match item {
-        Value::Bool(b) => Ok(Held::Bool(*b)),
-        Value::Int(i) => Ok(Held::Int(*i)),
-        Value::Uint(n) => Ok(Held::Uint(*n)),
-        _ => Ok(Held::of_value(item.copy()?)),
+        Value::Bool(b) => Ok(Operand::Bool(*b)),
+        Value::Int(i) => Ok(Operand::Int(*i)),
+        Value::Uint(n) => Ok(Operand::Uint(*n)),
+        _ => Ok(Operand::of_value(item.copy()?)),
     }
 }
 
 // An index as an int, `Overflow` above 2^63 - 1.
-fn hold_index<'a>(index: usize) -> Held<'a>
-    ensures { held_view result ≡ int_answer (pos index) }
+fn hold_index<'a>(index: usize) -> Operand<'a>
+    ensures { operand_view result ≡ int_answer (pos index) }
 {
     match i64::try_from(index) {
-        Ok(number) => Held::Int(number),
-        Err(_) => Held::Fails(CelError::Overflow),
+        Ok(number) => Operand::Int(number),
+        Err(_) => Operand::Fails(CelError::Overflow),
     }
 }
 
@@ -56,7 +56,7 @@ fn hold_index<'a>(index: usize) -> Held<'a>
 pub(crate) fn map_pair<'a>(
     map: &Map,
     index: usize,
-) -> Result<Option<(Held<'a>, Held<'a>)>, AllocError>
+) -> Result<Option<(Operand<'a>, Operand<'a>)>, AllocError>
     ensures { IfOk result (λ found. option_map pair_view found
         ≡ option_map pair_answers (slice_get (keyed (map_view map.now)) index)) }
 {
@@ -69,13 +69,13 @@ pub(crate) fn map_pair<'a>(
 fn entry_pair<'a>(
     entries: &[(Key, Value)],
     index: usize,
-) -> Result<Option<(Held<'a>, Held<'a>)>, AllocError>
+) -> Result<Option<(Operand<'a>, Operand<'a>)>, AllocError>
     ensures { IfOk result (λ found. option_map pair_view found
         ≡ option_map pair_answers (slice_get (keyed (entries_view entries.now)) index)) }
 {
     if index < entries.len() {
         let entry = &entries[index];
-        let key = Held::of_value(Value::from(entry.0.copy()?));
+        let key = Operand::of_value(Value::from(entry.0.copy()?));
         let value = hold_item(&entry.1)?;
         return Ok(Some((key, value)));
     }
@@ -85,14 +85,14 @@ fn entry_pair<'a>(
 fn text_pair<'a>(
     pairs: &[(ArcStr, ArcStr)],
     index: usize,
-) -> Result<Option<(Held<'a>, Held<'a>)>, AllocError>
+) -> Result<Option<(Operand<'a>, Operand<'a>)>, AllocError>
     ensures { IfOk result (λ found. option_map pair_view found
         ≡ option_map pair_answers (slice_get (keyed (pairs_view pairs.now)) index)) }
 {
     if index < pairs.len() {
         let pair = &pairs[index];
-        let name = Held::Text(pair.0.clone()?);
-        let value = Held::Text(pair.1.clone()?);
+        let name = Operand::Text(pair.0.clone()?);
+        let value = Operand::Text(pair.1.clone()?);
         return Ok(Some((name, value)));
     }
     Ok(None)
@@ -100,12 +100,12 @@ fn text_pair<'a>(
 
 /// The name and the value of a header at an index, lent.
 #[inline(always)]
-pub(crate) fn header_pair(headers: &Headers, index: usize) -> Option<(Held<'_>, Held<'_>)>
+pub(crate) fn header_pair(headers: &Headers, index: usize) -> Option<(Operand<'_>, Operand<'_>)>
     ensures { option_map pair_view result
         ≡ option_map pair_answers (slice_get (keyed (header_entries headers.now)) index) }
 {
     match headers.get(index) {
-        Some((name, value)) => Some((Held::Part(name), Held::Part(value))),
+        Some((name, value)) => Some((Operand::Part(name), Operand::Part(value))),
         None => None,
     }
 }
