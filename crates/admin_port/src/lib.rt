@@ -1,7 +1,7 @@
 //! The connections of a server's admin port.
 #![tactic(auto)]
 
+mod admin_stream;
 mod port;
-mod visitor;
 
 pub use port::{AdminPort, AdminReady};

@@ -1,6 +1,6 @@
 //! The connections of the admin port.
 
-use crate::visitor::{Next, Visitor};
+use crate::admin_stream::{AdminStream, Next};
 use serve_admin::{Admin, AdminConnection};
 use serve_net::{Places, Sockets};
 use std::alloc::{AllocError, Global};
@@ -39,7 +39,7 @@ impl AdminReady {
 pub struct AdminPort {
     alloc: Global,
     keys: RandomState,
-    visitors: Places<Visitor>,
+    admin_streams: Places<AdminStream>,
 }
 
 impl AdminPort {
@@ -48,7 +48,7 @@ impl AdminPort {
         Ok(AdminPort {
             alloc,
             keys,
-            visitors: Places::new(alloc, PLACES)?,
+            admin_streams: Places::new(alloc, PLACES)?,
         })
     }
 
@@ -88,13 +88,14 @@ impl AdminPort {
         ready: &mut AdminReady,
         now: u64,
     ) -> Result<(), AllocError> {
-        let Some(k) = self.visitors.first_free() else {
+        let Some(k) = self.admin_streams.first_free() else {
             return Ok(());
         };
         match sockets.accept_admin(k) {
             Ok(stream) => {
                 let connection = AdminConnection::new(self.alloc, self.keys);
-                self.visitors.put(k, Visitor::new(stream, connection, now));
+                self.admin_streams
+                    .put(k, AdminStream::new(stream, connection, now));
                 ready.due.push(k)?;
                 Ok(())
             }
@@ -107,25 +108,25 @@ impl AdminPort {
 
     // One turn of the connection in a place.
     fn visit(&mut self, k: usize, admin: &mut Admin) -> Next {
-        let next = match self.visitors.get_mut(k) {
-            Some(visitor) => visitor.turn(admin),
+        let next = match self.admin_streams.get_mut(k) {
+            Some(admin_stream) => admin_stream.turn(admin),
             None => Next::Waits,
         };
         if next == Next::Over {
-            self.visitors.free(k);
+            self.admin_streams.free(k);
         }
         next
     }
 
     // Ends the connections that take too long.
     fn end_late(&mut self, now: u64) {
-        for k in 0..self.visitors.len() {
-            let is_late = match self.visitors.get(k) {
-                Some(visitor) => visitor.is_older(TIME, now),
+        for k in 0..self.admin_streams.len() {
+            let is_late = match self.admin_streams.get(k) {
+                Some(admin_stream) => admin_stream.is_older(TIME, now),
                 None => false,
             };
             if is_late {
-                self.visitors.free(k);
+                self.admin_streams.free(k);
             }
         }
     }

@@ -75,11 +75,11 @@ merely_limits c name a was =
 answer_admitted : (c : ConfigValue) (response : ResponseMessage) (old new : Accepted) (reply : RequestMessage)
     → Answers c response old reply new → AllZip (WasAdmitted c.limits) c.filters old.policies
     → AllZip (WasAdmitted c.limits) c.filters new.policies
-answer_admitted c response old new reply (ack accepts told) all =
+answer_admitted c response old new reply (ack accepts reported) all =
     rw accepts.policies
     (replaced_admitted c.limits accepts.extensions c.filters old.policies accepts.given all accepts.gives)
-answer_admitted c response old new reply (nack e refuses same told) all = rw same all
-answer_admitted c response old new reply (no_memory admitting same told) all = rw same all
+answer_admitted c response old new reply (nack e refuses same reported) all = rw same all
+answer_admitted c response old new reply (no_memory admitting same reported) all = rw same all
 
 -- whatever is answered
 all_admitted : (c : ConfigValue) (old : Accepted) (messages : List (List ℕ)) (replies : List ℕ)
@@ -91,7 +91,7 @@ all_admitted c old [] replies versions new ends (none, nothing, same, goes_on) a
 all_admitted c old (m ∷ messages) replies versions new ends (inl (fault, none, nothing, same, stops)) all =
     rw same all
 all_admitted c old (m ∷ messages) replies versions new ends
-    (inr (response, reply, next, more, later, reads, answers, frame, told, others)) all =
+    (inr (response, reply, next, more, later, reads, answers, frame, reported, others)) all =
     all_admitted c next messages more later new ends others (answer_admitted c response old next reply answers all)
 
 -- told of a client's ghost field

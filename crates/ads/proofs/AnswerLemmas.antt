@@ -63,26 +63,26 @@ on_ok_weaker (Err e) P Q weaker p = tt
 -- what holds of the answers so far: whatever the other messages are answered, all are answered so
 abbrev pub GoesOn : ConfigValue → Accepted → List (List ℕ) → List ℕ → List Judgement → Accepted → List (List ℕ)
     → List ℕ → List Judgement → Type 0
-GoesOn c start all before told now rest after later =
-    (done : List ℕ) × (judged : List Judgement) × (after ≡ before ++ done) × (later ≡ told ++ judged)
+GoesOn c start all before reported now rest after later =
+    (done : List ℕ) × (judged : List Judgement) × (after ≡ before ++ done) × (later ≡ reported ++ judged)
     × ((more : List Judgement) (others : List ℕ) (new : Accepted) (reason : Option Ended)
     → AreJudged c now rest more others new reason
     → AreJudged c start all (judged ++ more) (done ++ others) new reason)
 
-module _ (c : ConfigValue) (start : Accepted) (all : List (List ℕ)) (before : List ℕ) (told : List Judgement) where
-  pub goes_on_from : GoesOn c start all before told start all before told
-  goes_on_from = ([], [], sym (append-nil before), sym (append-nil told), λ more others new reason is. is)
+module _ (c : ConfigValue) (start : Accepted) (all : List (List ℕ)) (before : List ℕ) (reported : List Judgement) where
+  pub goes_on_from : GoesOn c start all before reported start all before reported
+  goes_on_from = ([], [], sym (append-nil before), sym (append-nil reported), λ more others new reason is. is)
 
   -- the judgements and the answers of all messages
   abbrev pub AllJudged : Accepted → Draft → Option Ended → Type 0
   AllJudged new draft reason = (judgements : List Judgement) × (replies : List ℕ)
-      × AreJudged c start all judgements replies new reason × (draft.judgements.items ≡ told ++ judgements)
+      × AreJudged c start all judgements replies new reason × (draft.judgements.items ≡ reported ++ judgements)
       × (draft.replies.items ≡ before ++ replies)
 
   module _ (old : List (Option AdmittedValue)) (now : Draft) where
     -- what holds of the answers so far, as the draft has them
     abbrev SoFar : List (List ℕ) → Draft → Type 0
-    SoFar rest draft = GoesOn c start all before told (draft_view old draft) rest draft.replies.items
+    SoFar rest draft = GoesOn c start all before reported (draft_view old draft) rest draft.replies.items
         draft.judgements.items
 
     -- one message more is answered
@@ -94,7 +94,7 @@ module _ (c : ConfigValue) (start : Accepted) (all : List (List ℕ)) (before : 
           done ++ frame_of bytes,
           judged ++ j ∷ [],
           added ∙ ap (λ xs. xs ++ frame_of bytes) so_far ∙ append_assoc before done (frame_of bytes),
-          pushed ∙ ap (λ xs. xs ++ j ∷ []) judged_so ∙ append_assoc told judged (j ∷ []),
+          pushed ∙ ap (λ xs. xs ++ j ∷ []) judged_so ∙ append_assoc reported judged (j ∷ []),
           λ more others new reason later.
               rw (append_assoc done (frame_of bytes) others, append_assoc judged (j ∷ []) more)
               (whole (j ∷ more) (frame_of bytes ++ others) new reason
@@ -138,50 +138,50 @@ module _ (c : ConfigValue) (start : Accepted) (all : List (List ℕ)) (before : 
         )
 
 -- a request with an error
-pub with_error : (c : ConfigValue) (version nonce : List ℕ) (m : RequestMessage) (status told : StatusMessage)
-    → m ≡ request_of c version None nonce None → told ≡ status
+pub with_error : (c : ConfigValue) (version nonce : List ℕ) (m : RequestMessage) (status reported : StatusMessage)
+    → m ≡ request_of c version None nonce None → reported ≡ status
     → ◌≡◌ {A = RequestMessage} (record {
       version_info = m.version_info;
       node = m.node;
       resource_names = m.resource_names;
       type_url = m.type_url;
       response_nonce = m.response_nonce;
-      error_detail = Some told;
+      error_detail = Some reported;
     })
     (request_of c version None nonce (Some status))
-with_error c version nonce m status told same tells = rw (same, tells) refl
+with_error c version nonce m status reported same reports = rw (same, reports) refl
 
 -- a draft that gives nothing
-pub same_draft : (old : List (Option AdmittedValue)) (told version : List ℕ) (given : List (Option Admitted)) (n : ℕ)
-    → told ≡ version → given ≡ []
-    → ◌≡◌ {A = Accepted} (record { version = told; policies = replaced old (policies_view given); generation = n })
+pub same_draft : (old : List (Option AdmittedValue)) (reported version : List ℕ) (given : List (Option Admitted)) (n : ℕ)
+    → reported ≡ version → given ≡ []
+    → ◌≡◌ {A = Accepted} (record { version = reported; policies = replaced old (policies_view given); generation = n })
     (record { version = version; policies = old; generation = n })
-same_draft old told version given n same none = rw (same, none, replaced_nothing old) refl
+same_draft old reported version given n same none = rw (same, none, replaced_nothing old) refl
 
 -- what a test told
-pub told_no : (b : Bool) (P Q : Type 0) → b ≡ false → MatchBool b P Q → Q
-told_no true P Q is p = absurd (true≢false is)
-told_no false P Q is q = q
+pub reported_no : (b : Bool) (P Q : Type 0) → b ≡ false → MatchBool b P Q → Q
+reported_no true P Q is p = absurd (true≢false is)
+reported_no false P Q is q = q
 
-pub told_yes : (b : Bool) (P Q : Type 0) → b ≡ true → MatchBool b P Q → P
-told_yes true P Q is p = p
-told_yes false P Q is q = absurd (true≢false (sym is))
+pub reported_yes : (b : Bool) (P Q : Type 0) → b ≡ true → MatchBool b P Q → P
+reported_yes true P Q is p = p
+reported_yes false P Q is q = absurd (true≢false (sym is))
 
 -- answers behind nothing
-pub from_judged : (c : ConfigValue) (a b d : Accepted) (ms : List (List ℕ)) (before : List ℕ) (told : List Judgement)
-    (draft : Draft) (reason : Option Ended) → b ≡ a → before ≡ [] → told ≡ []
-    → AllJudged c b ms before told d draft reason
+pub from_judged : (c : ConfigValue) (a b d : Accepted) (ms : List (List ℕ)) (before : List ℕ) (reported : List Judgement)
+    (draft : Draft) (reason : Option Ended) → b ≡ a → before ≡ [] → reported ≡ []
+    → AllJudged c b ms before reported d draft reason
     → AreJudged c a ms draft.judgements.items draft.replies.items d reason
-from_judged c a b d ms before told draft reason same none empty (judgements, replies, judged, judged_so, whole) =
+from_judged c a b d ms before reported draft reason same none empty (judgements, replies, judged, judged_so, whole) =
     let all : draft.replies.items ≡ replies = whole ∙ ap (λ xs. xs ++ replies) none in
     let each : draft.judgements.items ≡ judgements = judged_so ∙ ap (λ xs. xs ++ judgements) empty in
     rw (all, each, ← same) judged
 
 -- what was told of a fault, if there is one
-pub told_none : {A : Type 0} (found : Option A) (P : Type 0) (Q : A → Type 0) → found ≡ None → MatchOption found P Q → P
-told_none None P Q is p = p
-told_none (Some x) P Q is q = absurd cc
+pub reported_none : {A : Type 0} (found : Option A) (P : Type 0) (Q : A → Type 0) → found ≡ None → MatchOption found P Q → P
+reported_none None P Q is p = p
+reported_none (Some x) P Q is q = absurd cc
 
-pub told_some : {A : Type 0} (found : Option A) (x : A) (P : Type 0) (Q : A → Type 0) → found ≡ Some x
+pub reported_some : {A : Type 0} (found : Option A) (x : A) (P : Type 0) (Q : A → Type 0) → found ≡ Some x
     → MatchOption found P Q → Q x
-told_some found x P Q is q = rw is at q
+reported_some found x P Q is q = rw is at q

@@ -23,9 +23,9 @@ zip_apart R P apart (x ∷ xs) (y ∷ ys) (is, all) (inr some) = zip_apart R P a
 
 resource_apart : (e : Refusal) (any : AnyMessage) (extension : ExtensionMessage) → IsResource any extension
     → ResourceFault any e → ⊥
-resource_apart e any extension is (ResourceFault.wrong_type other told) = other is.type_url
+resource_apart e any extension is (ResourceFault.wrong_type other reported) = other is.type_url
 resource_apart e any extension is (unreadable same bad) = extension_disjoint any.value extension e is.reads bad
-resource_apart e any extension is (nameless also same reads empty told) =
+resource_apart e any extension is (nameless also same reads empty reported) =
     let one : also ≡ extension = extension_unique any.value also extension reads is.reads in
     is.name (subst (λ (x : ExtensionMessage). x.name ≡ []) one empty)
 
@@ -105,9 +105,9 @@ module _ {P : Type 0} (IsGiven : LimitsValue → FilterValue → List ℕ → P 
       (given : Option P) → GivesAs IsGiven limits f xs given
       → SomeOf (λ x. ExtensionIsRefused limits f x e) xs → ⊥
   gives_apart limits f e [] given gives some = some
-  gives_apart limits f e (x ∷ []) given (bytes, p, holds, is_given, told) (inl (no_filter none is)) =
+  gives_apart limits f e (x ∷ []) given (bytes, p, holds, is_given, reported) (inl (no_filter none is)) =
       none bytes holds
-  gives_apart limits f e (x ∷ []) given (bytes, p, holds, is_given, told)
+  gives_apart limits f e (x ∷ []) given (bytes, p, holds, is_given, reported)
       (inl (not_admitted other also bad)) =
       let one : other ≡ bytes = holds_one x.typed_config _ _ other bytes also holds in
       bytes_disjoint limits e bytes f.budget (admissible limits f bytes p is_given) (rw one at bad)
@@ -118,10 +118,10 @@ module _ {P : Type 0} (IsGiven : LimitsValue → FilterValue → List ℕ → P 
 
   pub accepts_apart : (c : ConfigValue) (response : ResponseMessage) (old new : AcceptedOf P) (e : Refusal)
       → AcceptsAs IsGiven c response old new → Refuses c response e → ⊥
-  accepts_apart c response old new e a (Refuses.wrong_type other told) = other a.type_url
+  accepts_apart c response old new e a (Refuses.wrong_type other reported) = other a.type_url
   accepts_apart c response old new e a (bad_resource some) =
       zip_apart IsResource (λ any. ResourceFault any e) (resource_apart e) response.resources a.extensions a.reads some
-  accepts_apart c response old new e a (doubled some told) =
+  accepts_apart c response old new e a (doubled some reported) =
       zip_apart (λ f. GivesAs IsGiven c.limits f (named f.name a.extensions)) (λ f. TwoOf (IsNamed f.name) response.resources)
       (λ f given gives two. gives_one c.limits f (named f.name a.extensions) given gives
       (two_named f.name response.resources a.extensions a.reads two))

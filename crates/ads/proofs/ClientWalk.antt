@@ -94,18 +94,18 @@ module _ (recorded accepted acks unread : List ℕ) (current : ℕ) where
       → response.version_info ≡ decimal k → k < 2 ^ 64
       → Numbers recorded accepted acks (k ∷ unread) current old.version
       → IsOne recorded accepted acks unread current message reply new
-  one_answered k c response old reply new message (ack accepts told) short written is fits n = record {
+  one_answered k c response old reply new message (ack accepts reported) short written is fits n = record {
     taken = k ∷ [];
-    asked = ack_asked c response k message is fits short (subst (λ r. RequestWritten r message) told written);
-    versions = rw (told, is) refl;
+    asked = ack_asked c response k message is fits short (subst (λ r. RequestWritten r message) reported written);
+    versions = rw (reported, is) refl;
     numbers = rw (accepts.version, is) (number_accepted recorded accepted acks unread current old.version k n);
   }
-  one_answered k c response old reply new message (nack e refuses same told) short written is fits n =
-      rw (same, told) (one_refused k c response old e message short
-      (subst (λ r. RequestWritten r message) told written) n)
-  one_answered k c response old reply new message (no_memory admitting same told) short written is fits n =
-      rw (same, told) (one_refused k c response old Refusal.Memory message short
-      (subst (λ r. RequestWritten r message) told written) n)
+  one_answered k c response old reply new message (nack e refuses same reported) short written is fits n =
+      rw (same, reported) (one_refused k c response old e message short
+      (subst (λ r. RequestWritten r message) reported written) n)
+  one_answered k c response old reply new message (no_memory admitting same reported) short written is fits n =
+      rw (same, reported) (one_refused k c response old Refusal.Memory message short
+      (subst (λ r. RequestWritten r message) reported written) n)
 
 -- ---- all answers of a call
 
@@ -146,13 +146,13 @@ taken_more : (recorded accepted acks unread : List ℕ) (current : ℕ) (others 
     → AreTaken recorded (accepted ++ one.taken) (acks ++ one.taken) current others more later new ends
     → AreTaken recorded accepted acks current others replies versions new ends
 taken_more recorded accepted acks unread current others message replies more versions later reply next new ends one is
-    told rest = record {
+    reported rest = record {
       requests = message ∷ rest.requests;
       taken = one.taken ++ rest.taken;
       left = rest.left;
       frames = is ∙ ap (λ (t : List ℕ). frame_of message ++ t) rest.frames;
       asked = (one.taken, rest.taken, one.asked, refl, rest.asked);
-      versions_are = told ∙ ap₂ (λ (x y : List (List ℕ)). x ++ y) one.versions rest.versions_are
+      versions_are = reported ∙ ap₂ (λ (x y : List (List ℕ)). x ++ y) one.versions rest.versions_are
           ∙ sym (map-append decimal one.taken rest.taken);
       unread = rest.unread;
       numbers = rw (← append_assoc accepted one.taken rest.taken, ← append_assoc acks one.taken rest.taken) rest.numbers;
@@ -175,11 +175,11 @@ all_taken (m ∷ messages) c old replies versions new ends others recorded accep
     taken_none recorded accepted acks (k ∷ unread) current others replies versions old new ends none nothing same
     (λ is. absurd (true≢false (sym stops ∙ is))) n
 all_taken (m ∷ messages) c old replies versions new ends others recorded accepted acks (k ∷ unread) current
-    (inr (response, reply, next, more, later, reads, answers, (message, written, short, is), told, rest)) (first, sent) n =
+    (inr (response, reply, next, more, later, reads, answers, (message, written, short, is), reported, rest)) (first, sent) n =
     let version = first.2 response reads in
     let one = one_answered recorded accepted acks unread current k c response old reply next message answers short
     written version first.1 n in
     taken_more recorded accepted acks unread current others message replies more versions later reply next new ends
-    one is told
+    one is reported
     (all_taken messages c next more later new ends others recorded (accepted ++ one.taken) (acks ++ one.taken)
     unread current rest sent one.numbers)

@@ -106,7 +106,7 @@ reached_current : (old : ServedValue) (last : Option ℕ) (r : RequestMessage) �
     → IsReply old r → old.current ≤ old.sent
 reached_current old None r is live reply = absurd (rw is at reply.nonce)
 reached_current old (Some n) r is live reply =
-    let told : (n ≤ old.sent) × (old.current ≤ old.sent) = rw is at live.last in told.1
+    let reported : (n ≤ old.sent) × (old.current ≤ old.sent) = rw is at live.last in reported.1
 
 -- a stream on which nothing was sent
 pub first_live : (old : ServedValue) → old.last ≡ None → IsCounted old → IsLive old
@@ -124,14 +124,14 @@ one_served snapshots request old replies numbers new ends recorded' accepted a a
     rw nothing (sends_one recorded' accepted acks unread version snapshots request.resource_names old replies new ends
     sends live.counted (λ lacks. live) n')
 one_served snapshots request old replies numbers new ends recorded' accepted a acks unread version
-    (ack is advances told) acked live n =
+    (ack is advances reported) acked live n =
     let n' : Numbers recorded' accepted (old.current ∷ acks) unread old.current version = rw (acked is) at n in
     let one = advances_one (recorded' ++ old.current ∷ []) accepted acks unread version snapshots
     request.resource_names (recorded old) replies new ends advances
     (record { counted = record { reached = live.counted.reached; few = live.counted.few }; last = live.last })
     (reached_current old old.last request refl live is.reply)
     (number_recorded recorded' accepted acks unread old.current version old.current n') in
-    rw told (record {
+    rw reported (record {
       responses = one.responses;
       sent' = one.sent';
       frames = one.frames;
@@ -172,7 +172,7 @@ served_more : (recorded' accepted acks unread version : List ℕ) (others : List
     → AreServedSo (recorded' ++ now) accepted (unread ++ one.sent') version others behind later new ends
     → AreServedSo recorded' accepted unread version others replies numbers new ends
 served_more recorded' accepted acks unread version others replies before behind numbers now later then' new ends one both
-    told all = record {
+    reported all = record {
       responses = one.responses ++ all.responses;
       sent' = one.sent' ++ all.sent';
       left = all.left;
@@ -181,7 +181,7 @@ served_more recorded' accepted acks unread version others replies before behind 
       counted = all.counted;
       live = all.live;
       asked = all.asked;
-      numbers' = rw (told, ← append_assoc recorded' now later, ← append_assoc unread one.sent' all.sent') all.numbers';
+      numbers' = rw (reported, ← append_assoc recorded' now later, ← append_assoc unread one.sent' all.sent') all.numbers';
     }
 
 pub all_served : (messages : List (List ℕ)) (snapshots : List (List ResourceValue)) (old : ServedValue)
@@ -229,11 +229,11 @@ all_served (m ∷ messages) snapshots old replies numbers new ends others record
       numbers' = one.numbers';
     }
 all_served (m ∷ messages) snapshots old replies numbers new ends others recorded' accepted acks unread version
-    (inr (inr (request, before, behind, now, later, then', reads, serves, both, told, rest')))
+    (inr (inr (request, before, behind, now, later, then', reads, serves, both, reported, rest')))
     (a, more, is, whole, rest) live n =
     let one = one_served snapshots request old before now then' false recorded' accepted a more unread version serves
     (λ acks'. is.1 request reads old live acks') live (rw whole at n) in
     served_more recorded' accepted more unread version others replies before behind numbers now later then' new ends one
-    both told
+    both reported
     (all_served messages snapshots then' behind later new ends others (recorded' ++ now) accepted more
     (unread ++ one.sent') version rest' rest (one.live refl) one.numbers')

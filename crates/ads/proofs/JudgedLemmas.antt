@@ -122,12 +122,12 @@ module _ (c : ConfigValue) (response : ResponseMessage) (xs : List ExtensionMess
       elim (first_or Q (λ f. Two f × (e ≡ Refusal.DuplicateResource))
       (λ f. Bad f ⊎ (Full f × (e ≡ Refusal.Memory))) c.filters
       (first_weaker Q _ (OneFault e) (one_fault fault bytes) c.filters first)) [
-        | inl two ↦ let told = some_with Two _ c.filters two in inr (doubled told.0 told.1)
+        | inl two ↦ let reported = some_with Two _ c.filters two in inr (doubled reported.0 reported.1)
         | inr others ↦ elim (first_or Q Bad (λ f. Full f × (e ≡ Refusal.Memory)) c.filters others) [
           | inl is ↦ inr (refused is)
           | inr full ↦
-              let told = first_with Q Full _ c.filters full in
-              inl (told.1, record { extensions = xs; type_url = type_url; reads = reads; asked = told.0 })
+              let reported = first_with Q Full _ c.filters full in
+              inl (reported.1, record { extensions = xs; type_url = type_url; reads = reads; asked = reported.0 })
         ]
       ]
 
@@ -143,7 +143,7 @@ module _ (c : ConfigValue) (response : ResponseMessage) (xs : List ExtensionMess
       → IfErr r (MatchNotAccepted (λ e. IsJudged c response (judged.Refused e)) (RunsOut c response))
   refused_from_taken type_url r taken =
       IfErr-weaker r _ _ (not_accepted_weaker _ _ _ _
-      (λ e told. refused_at e.fault e.filter e.message.now told)
+      (λ e reported. refused_at e.fault e.filter e.message.now reported)
       (λ first. taking xs type_url reads first)) taken
     where
       refused_at : (fault : Placed) (filter : Option ℕ) (bytes : List ℕ)

@@ -15,8 +15,8 @@ use Rattle.ads.specs.Judgements.{AreJudged, HasOutcome, IsJudgedAs, IsRefusedAs}
 use Rattle.ads.specs.Views.{policies_view}
 use Rattle.ads.specs.declared.ended.Ended.{Ended}
 use Rattle.ads.specs.declared.judgement.Judgement.{Judgement}
-use Rattle.ads.specs.declared.judgement.Outcome.{Outcome}
-use Rattle.ads.specs.declared.judgement.Outcome.TheVariants as outcomes
+use Rattle.ads.specs.declared.judgement.ResponseOutcome.{ResponseOutcome}
+use Rattle.ads.specs.declared.judgement.ResponseOutcome.TheVariants as outcomes
 use Rattle.ads.specs.declared.judgement.Refused.{Refused}
 use Rattle.ads.specs.declared.judging.Judged.TheVariants as judged
 use Rattle.ads.specs.declared.refused.Refusing.{Refusing}
@@ -33,9 +33,9 @@ refused_so c response fault None bytes (inr resource, none) = inr (bad_resource 
 refused_so c response fault (Some place) bytes is = refused_by c response place fault bytes is
 
 -- a response is answered as it is judged
-answers_of : (c : ConfigValue) (response : ResponseMessage) (old new : Accepted) (outcome : Outcome)
+answers_of : (c : ConfigValue) (response : ResponseMessage) (old new : Accepted) (outcome : ResponseOutcome)
     (reply : RequestMessage) → HasOutcome c response old outcome reply new → Answers c response old reply new
-answers_of c response old new (outcomes.Accepted given) reply (accepts, told, same) = ack accepts same
+answers_of c response old new (outcomes.Accepted given) reply (accepts, reported, same) = ack accepts same
 answers_of c response old new (outcomes.Refused r) reply (why, stays, same) =
     rw (stays, same) (refused_answer c response old r.fault.refusal
     (refused_so c response r.fault r.filter r.message.items why))
@@ -49,7 +49,7 @@ judged_answered c old [] js replies new reason (none, empty, same, goes) =
 judged_answered c old (m ∷ ms) js replies new reason (inl ((e, fault, is), none, empty, same)) =
     ([], inl ((e, fault), empty, refl, same, ap (λ (o : Option Ended). is_some o) is))
 judged_answered c old (m ∷ ms) js replies new reason
-    (inr (response, j, reply, next, later, more, reads, is, told, frame, others)) =
+    (inr (response, j, reply, next, later, more, reads, is, reported, frame, others)) =
     let rest = judged_answered c next ms later more new reason others in (
       accepted_by reply ++ rest.0,
       inr (
@@ -81,7 +81,7 @@ pub accepted_as : (c : ConfigValue) (response : ResponseMessage) (old new : Acce
     → new.policies ≡ replaced old.policies (policies_view given.items) → new.version ≡ response.version_info
     → new.generation ≡ min (old.generation + 1) (2 ^ 64 - 1)
     → IsJudgedAs c response old j (ack_of c response) new
-accepted_as c response old new j given filters (type_url, extensions, reads, gives) version nonce outcome told policies
+accepted_as c response old new j given filters (type_url, extensions, reads, gives) version nonce outcome reported policies
     accepted generation =
     let accepts : Accepts c response old new = record {
       extensions = extensions;
@@ -94,7 +94,7 @@ accepted_as c response old new j given filters (type_url, extensions, reads, giv
       generation = generation;
     } in
     let has : HasOutcome c response old (outcomes.Accepted filters) (ack_of c response) new =
-    (accepts, told ∙ given_views given.items, refl) in
+    (accepts, reported ∙ given_views given.items, refl) in
     record { version = version; nonce = nonce; outcome = rw outcome has }
 
 -- a response that is refused is judged as refused, with the same fault

@@ -99,26 +99,26 @@ pub first_with : {A : Type 0} (Q P : A → Type 0) (C : Type 0) (xs : List A) �
 first_with Q P C [] first = absurd first
 first_with Q P C (x ∷ xs) (inl (p, is)) = (inl p, is)
 first_with Q P C (x ∷ xs) (inr (q, more)) =
-    let told = first_with Q P C xs more in (inr (q, told.0), told.1)
+    let reported = first_with Q P C xs more in (inr (q, reported.0), reported.1)
 
 -- the first element, between others
 pub first_middle : {A B : Type 0} (Q P : A → Type 0) (R : A → B → Type 0) → ((x : A) (y : B) → R x y → Q x)
     → (xs : List A) (ys : List B) (x : A) (behind : List A) → AllZip R xs ys → P x
     → FirstOf Q P (xs ++ x ∷ behind)
-first_middle Q P R tells [] ys x behind all p = inl p
-first_middle Q P R tells (other ∷ xs) [] x behind all p = absurd all
-first_middle Q P R tells (other ∷ xs) (y ∷ ys) x behind (is, all) p =
-    inr (tells other y is, first_middle Q P R tells xs ys x behind all p)
+first_middle Q P R reports [] ys x behind all p = inl p
+first_middle Q P R reports (other ∷ xs) [] x behind all p = absurd all
+first_middle Q P R reports (other ∷ xs) (y ∷ ys) x behind (is, all) p =
+    inr (reports other y is, first_middle Q P R reports xs ys x behind all p)
 
 -- the element after others
 pub first_place : {A B : Type 0} (Q P : A → Type 0) (R : A → B → Type 0) → ((x : A) (y : B) → R x y → Q x)
     → (xs : List A) (ys : List B) (x : A) (behind : List A) → AllZip R xs ys → P x
     → FirstAt Q P (length ys) (xs ++ x ∷ behind)
-first_place Q P R tells [] [] x behind all p = p
-first_place Q P R tells [] (y ∷ ys) x behind all p = absurd all
-first_place Q P R tells (other ∷ xs) [] x behind all p = absurd all
-first_place Q P R tells (other ∷ xs) (y ∷ ys) x behind (is, all) p =
-    (tells other y is, first_place Q P R tells xs ys x behind all p)
+first_place Q P R reports [] [] x behind all p = p
+first_place Q P R reports [] (y ∷ ys) x behind all p = absurd all
+first_place Q P R reports (other ∷ xs) [] x behind all p = absurd all
+first_place Q P R reports (other ∷ xs) (y ∷ ys) x behind (is, all) p =
+    (reports other y is, first_place Q P R reports xs ys x behind all p)
 
 -- the element at a place is the first
 pub first_of_at : {A : Type 0} (Q P : A → Type 0) (place : ℕ) (xs : List A) → FirstAt Q P place xs → FirstOf Q P xs
@@ -152,4 +152,4 @@ pub some_with : {A : Type 0} (P : A → Type 0) (Q : Type 0) (xs : List A) → S
     → SomeOf P xs × Q
 some_with P Q [] p = absurd p
 some_with P Q (x ∷ xs) (inl (p, q)) = (inl p, q)
-some_with P Q (x ∷ xs) (inr more) = let told = some_with P Q xs more in (inr told.0, told.1)
+some_with P Q (x ∷ xs) (inr more) = let reported = some_with P Q xs more in (inr reported.0, reported.1)

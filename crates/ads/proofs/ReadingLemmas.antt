@@ -18,16 +18,16 @@ use Rattle.ads.proofs.Lists.{first_some, first_weaker, some_weaker}
 -- a resource of the right type whose bytes were read, or not
 pub read_faults : (any : AnyMessage) (F : Refusal → Type 0) (e : Refusal) → any.type_url ≡ extension_type
     → MemoryOr F e → ((d : Refusal) → F d → ResourceFault any d) → ReadFault any e
-read_faults any F e same (inl memory) told = inl (memory, same)
-read_faults any F e same (inr bad) told = inr (told e bad)
+read_faults any F e same (inl memory) reported = inl (memory, same)
+read_faults any F e same (inr bad) reported = inr (reported e bad)
 
 -- at a `?` behind the test of the type
 pub exit_read : (any : AnyMessage) (F : Refusal → Type 0) {T : Type 0} (r : Result T Refusal) (e : Refusal)
     → any.type_url ≡ extension_type → IsErrAnd r (λ y. y ≡ e) → MemoryOr F e
     → ((d : Refusal) → F d → ResourceFault any d) → IfErr r (ReadFault any)
-exit_read any F r e same left fault told =
+exit_read any F r e same left fault reported =
     let p = err_from_is_err_and r left in
-    rw (p.1, p.2) (read_faults any F e same fault told)
+    rw (p.1, p.2) (read_faults any F e same fault reported)
 
 -- a refusal other than `Memory` is a resource's fault
 fault_only : (e : Refusal) → e ≢ Refusal.Memory → (any : AnyMessage) → ReadFault any e → ResourceFault any e
@@ -37,9 +37,9 @@ fault_only e other any (inr fault) = fault
 -- where `Memory` is the refusal, the type is right
 right_type : (any : AnyMessage) → ReadFault any Refusal.Memory → any.type_url ≡ extension_type
 right_type any (inl memory) = memory.1
-right_type any (inr (ResourceFault.wrong_type other told)) = absurd cc
+right_type any (inr (ResourceFault.wrong_type other reported)) = absurd cc
 right_type any (inr (unreadable same bad)) = same
-right_type any (inr (nameless extension same reads empty told)) = same
+right_type any (inr (nameless extension same reads empty reported)) = same
 
 -- resources that do not read make the response wrong
 pub resources_wrong : {T : Type 0} (response : ResponseMessage) (read apart : Result T Refusal)

@@ -110,7 +110,7 @@ module _ (snapshots : List (List ResourceValue)) (before : List Turn) where
       → replies ≡ first ++ more → numbers ≡ now ++ later
       → Walked snapshots before (earlier ++ one.turn ∷ []) messages more later after ends
       → Walked snapshots before earlier (m ∷ messages) replies numbers after ends
-  walked_more earlier m messages request first more now later replies numbers next after ends reads one both told rest =
+  walked_more earlier m messages request first more now later replies numbers next after ends reads one both reported rest =
       record {
         read = m ∷ rest.read;
         others = rest.others;
@@ -121,7 +121,7 @@ module _ (snapshots : List (List ResourceValue)) (before : List Turn) where
         are_turns = inr (one.is_turn, rest.are_turns);
         replies_are = both ∙ frames_append first more one.turn.responses (responses_in rest.turns) one.replies_are
             rest.replies_are;
-        numbers_are = told ∙ ap₂ (λ (x y : List ℕ). x ++ y) one.numbers_are rest.numbers_are;
+        numbers_are = reported ∙ ap₂ (λ (x y : List ℕ). x ++ y) one.numbers_are rest.numbers_are;
         after_is = rest.after_is
             ∙ ap (served_of snapshots before) (append_assoc earlier (one.turn ∷ []) rest.turns);
         left = rest.left;
@@ -141,10 +141,10 @@ module _ (snapshots : List (List ResourceValue)) (before : List Turn) where
       (one_turn snapshots before earlier request replies numbers after true
       (subst (λ s. Serves snapshots request s replies numbers after true) is serves)) stops
   walked (m ∷ messages) earlier old replies numbers after ends is
-      (inr (inr (request, first, more, now, later, next, reads, serves, both, told, rest))) =
+      (inr (inr (request, first, more, now, later, next, reads, serves, both, reported, rest))) =
       let one = one_turn snapshots before earlier request first now next false
       (subst (λ s. Serves snapshots request s first now next false) is serves) in
-      walked_more earlier m messages request first more now later replies numbers next after ends reads one both told
+      walked_more earlier m messages request first more now later replies numbers next after ends reads one both reported
       (walked messages (earlier ++ one.turn ∷ []) next more later after ends one.after_is rest)
 
 -- ---- one stream
@@ -230,9 +230,9 @@ stream_then snapshots before bytes turns messages others (broken fault) stops fa
 stream_then snapshots before bytes turns messages others tail stops true cut read served (all_read nil goes is) =
     absurd (true≢false is)
 stream_then snapshots before bytes turns messages others tail stops false cut read served
-    (one_faulty m more e is fault goes told) = absurd (true≢false (sym told))
+    (one_faulty m more e is fault goes reported) = absurd (true≢false (sym reported))
 stream_then snapshots before bytes turns messages others tail stops true cut read served
-    (one_faulty m more e is fault goes told) = record {
+    (one_faulty m more e is fault goes reported) = record {
       taken = bytes;
       dropped = [];
       messages = messages;
@@ -245,9 +245,9 @@ stream_then snapshots before bytes turns messages others tail stops true cut rea
       served = served;
       stands = no_request m more e is fault goes refl;
     }
-stream_then snapshots before bytes turns messages others tail stops false cut read served (one_stops stop told) =
-    absurd (true≢false (sym told))
-stream_then snapshots before bytes turns messages others tail stops true cut read served (one_stops stop told) = record {
+stream_then snapshots before bytes turns messages others tail stops false cut read served (one_stops stop reported) =
+    absurd (true≢false (sym reported))
+stream_then snapshots before bytes turns messages others tail stops true cut read served (one_stops stop reported) = record {
   taken = bytes;
   dropped = [];
   messages = messages;
@@ -279,7 +279,7 @@ fed_more : (stream : Option (List ℕ)) (snapshots : List (List ResourceValue)) 
     → ServesBy stream old bytes replies is_broken numbers new
     → FedMore snapshots before (so_far ++ bytes) turns replies numbers new
 fed_more None snapshots before so_far turns old bytes replies is_broken numbers new those up is served
-    (nothing', told, none', same) =
+    (nothing', reported, none', same) =
     record {
       more = [];
       replies_are = nothing';
@@ -290,7 +290,7 @@ fed_more None snapshots before so_far turns old bytes replies is_broken numbers 
       snapshots_are = ap (λ (c : ControlValue). c.snapshots) same ∙ those;
     }
 fed_more (Some rest) snapshots before so_far turns old bytes replies is_broken numbers new those up
-    (messages, cut, read, served') served (serves, told) =
+    (messages, cut, read, served') served (serves, reported) =
     let all = walked snapshots before serves.messages turns old.served replies numbers new.served serves.ends served
     (subst (λ ss. AreServed ss old.served serves.messages replies numbers new.served serves.ends) those serves.served) in
     let cut' = cut_resumes so_far bytes most_bytes messages serves.messages (unfinished rest) serves.tail cut serves.cut in

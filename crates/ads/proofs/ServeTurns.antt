@@ -185,7 +185,7 @@ module _ (snapshots : List (List ResourceValue)) (before earlier : List Turn) (r
   idle serves none' nothing sends =
       turn_of false 0 (served_of snapshots before earlier) serves (
         (λ never. absurd (true≢false (sym never))),
-        (λ told. absurd (elim told [
+        (λ reported. absurd (elim reported [
           | inl is ↦ none' is.reply (inl is)
           | inr is ↦ none' is.reply (inr is)
         ])),
@@ -204,10 +204,10 @@ module _ (snapshots : List (List ResourceValue)) (before earlier : List Turn) (r
       → Advances snapshots request.resource_names old replies after ends
       → OneTurn snapshots before earlier request replies numbers after ends
   answered old serves is c n l a (at_last above nothing same stops) =
-      turn_of true 1 old serves ((λ e. is), (λ told. refl)) refl (sending_none old after replies nothing same)
+      turn_of true 1 old serves ((λ e. is), (λ reported. refl)) refl (sending_none old after replies nothing same)
       (omega (arith, c, above)) n l a
   answered old serves is c n l a (next below sends) =
-      turn_of true 1 (advanced old) serves ((λ e. is), (λ told. refl)) refl
+      turn_of true 1 (advanced old) serves ((λ e. is), (λ reported. refl)) refl
       (sending snapshots request.resource_names (advanced old) replies after ends sends)
       (omega (arith, c, below)) n l a
 
@@ -218,15 +218,15 @@ module _ (snapshots : List (List ResourceValue)) (before earlier : List Turn) (r
       by : Serves snapshots request (served_of snapshots before earlier) replies numbers after ends
           → OneTurn snapshots before earlier request replies numbers after ends
       by (first is sends nothing) =
-          idle serves (λ reply told. reply_behind _ (served_of snapshots before earlier) request refl is.last reply) nothing
+          idle serves (λ reply reported. reply_behind _ (served_of snapshots before earlier) request refl is.last reply) nothing
           (sending snapshots request.resource_names (served_of snapshots before earlier) replies after ends sends)
-      by (ack is advances told) =
+      by (ack is advances reported) =
           answered (recorded (served_of snapshots before earlier)) serves (inl is) refl refl refl
           (sym (last_put None (numbers_in (before ++ earlier)) (served_of snapshots before earlier).current)
-          ∙ ap (λ xs. last_of (numbers_in (before ++ earlier) ++ xs)) (sym told)) advances
+          ∙ ap (λ xs. last_of (numbers_in (before ++ earlier) ++ xs)) (sym reported)) advances
       by (nack is advances nothing) =
           answered (served_of snapshots before earlier) serves (inr is) refl refl refl
           (ap last_of (sym (append-nil (numbers_in (before ++ earlier))) ∙ ap (λ xs. numbers_in (before ++ earlier) ++ xs) (sym nothing))) advances
       by (ignored a b d nothing same stops none') =
-          idle serves (λ reply told. elim told [ inl is ↦ b is | inr is ↦ d is ]) none'
+          idle serves (λ reply reported. elim reported [ inl is ↦ b is | inr is ↦ d is ]) none'
           (sending_none (served_of snapshots before earlier) after replies nothing same)

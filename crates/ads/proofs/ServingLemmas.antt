@@ -147,39 +147,39 @@ no_bytes (b ∷ bytes) none = absurd (omega (arith, none))
 -- what holds of the messages so far: whatever the others are served, all are served so
 abbrev pub GoesOn : List (List ResourceValue) → ServedValue → List (List ℕ) → List ℕ → List Exchange → ServedValue
     → List (List ℕ) → List ℕ → List Exchange → Type 0
-GoesOn snapshots start all before told now rest after later =
-    (done numbers : List ℕ) × (added : List Exchange) × (after ≡ before ++ done) × (later ≡ told ++ added)
+GoesOn snapshots start all before reported now rest after later =
+    (done numbers : List ℕ) × (added : List Exchange) × (after ≡ before ++ done) × (later ≡ reported ++ added)
     × ((others : List Exchange) (more nums : List ℕ) (new : ServedValue) (reason : Option Ended)
     → AreExchanged snapshots now rest others more nums new reason
     → AreExchanged snapshots start all (added ++ others) (done ++ more) (numbers ++ nums) new reason)
 
 module _ (snapshots : List (List ResourceValue)) (start : ServedValue) (all : List (List ℕ)) (before : List ℕ)
-    (told : List Exchange) where
-  pub goes_on_from : GoesOn snapshots start all before told start all before told
+    (reported : List Exchange) where
+  pub goes_on_from : GoesOn snapshots start all before reported start all before reported
   goes_on_from =
-      ([], [], [], sym (append-nil before), sym (append-nil told), λ others more nums new reason is. is)
+      ([], [], [], sym (append-nil before), sym (append-nil reported), λ others more nums new reason is. is)
 
   -- all messages are served, and the replies and the exchanges stand behind those that were there
   abbrev pub AllExchanged : Serving → Option Ended → Type 0
   AllExchanged now reason = (exchanges : List Exchange) × (replies numbers : List ℕ)
       × AreExchanged snapshots start all exchanges replies numbers (served_view now.served) reason
-      × (now.exchanges.items ≡ told ++ exchanges) × (now.replies.items ≡ before ++ replies)
+      × (now.exchanges.items ≡ reported ++ exchanges) × (now.replies.items ≡ before ++ replies)
 
   -- what holds of the messages so far, as the draft has it
   abbrev pub SoFar : Serving → List (List ℕ) → Type 0
   SoFar now rest =
-      GoesOn snapshots start all before told (served_view now.served) rest now.replies.items now.exchanges.items
+      GoesOn snapshots start all before reported (served_view now.served) rest now.replies.items now.exchanges.items
 
   -- one message more is served
   pub goes_on_more : (now new : Serving) (message : List ℕ) (rest : List (List ℕ)) → SoFar now (message ∷ rest)
       → MessageIsServed snapshots message now new None → SoFar new rest
-  goes_on_more now new message rest (done, numbers, added, so_far, told_so, whole)
+  goes_on_more now new message rest (done, numbers, added, so_far, reported_so, whole)
       (a_request request reads (replies, nums, x, serves, is, grown, pushed)) = (
         done ++ replies,
         numbers ++ nums,
         added ++ x ∷ [],
         grown ∙ ap (λ xs. xs ++ replies) so_far ∙ append_assoc before done replies,
-        pushed ∙ ap (λ xs. xs ++ x ∷ []) told_so ∙ append_assoc told added (x ∷ []),
+        pushed ∙ ap (λ xs. xs ++ x ∷ []) reported_so ∙ append_assoc reported added (x ∷ []),
         λ others more later last reason rest'.
             rw (append_assoc done replies more, append_assoc numbers nums later, append_assoc added (x ∷ []) others)
             (whole (x ∷ others) (replies ++ more) (nums ++ later) last reason
@@ -205,13 +205,13 @@ module _ (snapshots : List (List ResourceValue)) (start : ServedValue) (all : Li
 
   -- no message is left
   pub goes_on_end : (now : Serving) → SoFar now [] → AllExchanged now None
-  goes_on_end now (done, numbers, added, so_far, told_so, whole) = (
+  goes_on_end now (done, numbers, added, so_far, reported_so, whole) = (
     added,
     done,
     numbers,
     rw (append-nil done, append-nil numbers, append-nil added) at
         (whole [] [] [] (served_view now.served) None (refl, refl, refl, refl, refl)),
-    told_so,
+    reported_so,
     so_far,
   )
 
@@ -219,17 +219,17 @@ module _ (snapshots : List (List ResourceValue)) (start : ServedValue) (all : Li
   pub goes_on_stop : (now new : Serving) (message : List ℕ) (rest : List (List ℕ)) (reason : Ended)
       → SoFar now (message ∷ rest) → MessageIsServed snapshots message now new (Some reason)
       → AllExchanged new (Some reason)
-  goes_on_stop now new message rest reason (done, numbers, added, so_far, told_so, whole)
+  goes_on_stop now new message rest reason (done, numbers, added, so_far, reported_so, whole)
       (a_request request reads ((replies, nums, x, serves, is, grown, pushed), why)) = (
         added ++ x ∷ [],
         done ++ replies,
         numbers ++ nums,
         whole (x ∷ []) replies nums (served_view new.served) (Some reason)
             (inr (inl (request, x, reads, serves, is, refl, ap Some why))),
-        pushed ∙ ap (λ xs. xs ++ x ∷ []) told_so ∙ append_assoc told added (x ∷ []),
+        pushed ∙ ap (λ xs. xs ++ x ∷ []) reported_so ∙ append_assoc reported added (x ∷ []),
         grown ∙ ap (λ xs. xs ++ replies) so_far ∙ append_assoc before done replies,
       )
-  goes_on_stop now new message rest reason (done, numbers, added, so_far, told_so, whole)
+  goes_on_stop now new message rest reason (done, numbers, added, so_far, reported_so, whole)
       (no_request e fault is same) = (
         added,
         done,
@@ -237,17 +237,17 @@ module _ (snapshots : List (List ResourceValue)) (start : ServedValue) (all : Li
         rw (append-nil done, append-nil numbers, append-nil added) at
             (whole [] [] [] (served_view new.served) (Some reason)
             (inl ((e, fault, is), refl, refl, refl, ap (λ (s : Serving). served_view s.served) same))),
-        ap (λ (s : Serving). s.exchanges.items) same ∙ told_so,
+        ap (λ (s : Serving). s.exchanges.items) same ∙ reported_so,
         ap (λ (s : Serving). s.replies.items) same ∙ so_far,
       )
 
 -- what is told of the messages behind nothing
 pub from_exchanged : (snapshots : List (List ResourceValue)) (start : ServedValue) (ms : List (List ℕ))
-    (before : List ℕ) (told : List Exchange) (now : Serving) (reason : Option Ended) → before ≡ [] → told ≡ []
-    → AllExchanged snapshots start ms before told now reason
+    (before : List ℕ) (reported : List Exchange) (now : Serving) (reason : Option Ended) → before ≡ [] → reported ≡ []
+    → AllExchanged snapshots start ms before reported now reason
     → (numbers : List ℕ)
     × AreExchanged snapshots start ms now.exchanges.items now.replies.items numbers (served_view now.served) reason
-from_exchanged snapshots start ms before told now reason none empty (exchanges, replies, numbers, is, each, all) =
+from_exchanged snapshots start ms before reported now reason none empty (exchanges, replies, numbers, is, each, all) =
     let sent : now.replies.items ≡ replies = all ∙ ap (λ xs. xs ++ replies) none in
     let heard : now.exchanges.items ≡ exchanges = each ∙ ap (λ xs. xs ++ exchanges) empty in
     (numbers, rw (sent, heard) is)
@@ -308,13 +308,13 @@ served_since snapshots request old new replies numbers ends (ignored x y z nothi
 
 -- the exchange of a request that was served stands behind the others
 pub taken_so : (snapshots : List (List ResourceValue)) (request : RequestMessage) (old now : ServedValue)
-    (before after : List ℕ) (xs ys : List Exchange) (x : Exchange) (ends told : Bool) → told ≡ ends
-    → IsServed snapshots request old before after now told → string_bytes x.version ≡ request.version_info
+    (before after : List ℕ) (xs ys : List Exchange) (x : Exchange) (ends reported : Bool) → reported ≡ ends
+    → IsServed snapshots request old before after now reported → string_bytes x.version ≡ request.version_info
     → string_bytes x.nonce ≡ request.response_nonce → Says request x.word → x.sent ≡ sent_since old.sent now
     → ys ≡ xs ++ x ∷ [] → (replies numbers : List ℕ) × (y : Exchange)
     × Serves snapshots request old replies numbers now ends × IsExchange request replies y
     × (after ≡ before ++ replies) × (ys ≡ xs ++ y ∷ [])
-taken_so snapshots request old now before after xs ys x ends told is (numbers, (added, serves, grown)) version nonce says
+taken_so snapshots request old now before after xs ys x ends reported is (numbers, (added, serves, grown)) version nonce says
     since pushed = (
       added,
       numbers,
@@ -324,7 +324,7 @@ taken_so snapshots request old now before after xs ys x ends told is (numbers, (
         version = version;
         nonce = nonce;
         says = says;
-        sent = rw since (served_since snapshots request old now added numbers told serves);
+        sent = rw since (served_since snapshots request old now added numbers reported serves);
       },
       grown,
       pushed,
@@ -344,7 +344,7 @@ exchanged_served snapshots old (m ∷ ms) xs replies numbers new reason
     (inr (inl (request, x, reads, serves, is, one, why))) =
     inr (inl (request, reads, serves, ap (λ (o : Option Ended). is_some o) why))
 exchanged_served snapshots old (m ∷ ms) xs replies numbers new reason
-    (inr (inr (request, x, others, head, more, now, later, between, reads, serves, is, told, all, nums, rest))) =
+    (inr (inr (request, x, others, head, more, now, later, between, reads, serves, is, reported, all, nums, rest))) =
     inr (inr (
       request,
       head,

@@ -331,8 +331,8 @@ module _ (version : List ℕ) (error : Option StatusMessage) where
   pub stale_is_ignored : (snapshots : List (List ResourceValue)) (replies numbers : List ℕ) (after : ServedValue)
       (ends : Bool) → Serves snapshots (stale version error) sent_second replies numbers after ends
       → (replies ≡ []) × (numbers ≡ []) × (after ≡ sent_second) × (ends ≡ false)
-  stale_is_ignored snapshots replies numbers after ends (Serves.first is sends told) = absurd (stale_no_first is)
-  stale_is_ignored snapshots replies numbers after ends (Serves.ack is sends told) = absurd (stale_no_ack is)
-  stale_is_ignored snapshots replies numbers after ends (Serves.nack is sends told) = absurd (stale_no_nack is)
-  stale_is_ignored snapshots replies numbers after ends (Serves.ignored no_first no_ack no_nack silent same goes_on told) =
-      (silent, told, same, goes_on)
+  stale_is_ignored snapshots replies numbers after ends (Serves.first is sends reported) = absurd (stale_no_first is)
+  stale_is_ignored snapshots replies numbers after ends (Serves.ack is sends reported) = absurd (stale_no_ack is)
+  stale_is_ignored snapshots replies numbers after ends (Serves.nack is sends reported) = absurd (stale_no_nack is)
+  stale_is_ignored snapshots replies numbers after ends (Serves.ignored no_first no_ack no_nack silent same goes_on reported) =
+      (silent, reported, same, goes_on)

@@ -8,8 +8,8 @@ use Rattle.xds_wire.proofs.OneCut.{cut_one}
 use Rattle.ads.specs.Answer.{Accepted}
 use Rattle.ads.specs.Client.{ClientValue, AreAnswered, Feeds as ClientFeeds, ended_by, fault_in, most_bytes, stream_after}
 use Rattle.ads.specs.Control.{ControlValue, ServesBytes}
-use Rattle.ads.specs.Judgements.{AreJudged, TellsBy}
-use Rattle.ads.specs.Exchanges.{AreExchanged, TellsServedBy}
+use Rattle.ads.specs.Judgements.{AreJudged, ReportsJudgementsBy}
+use Rattle.ads.specs.Exchanges.{AreExchanged, ReportsExchangesBy}
 use Rattle.ads.specs.declared.ended.Ended.{Ended}
 use Rattle.ads.specs.declared.exchange.Exchange.{Exchange}
 use Rattle.ads.specs.declared.ended.Ended.TheVariants as ended
@@ -99,7 +99,7 @@ part_served old new rest bytes replies up begins none snapshots stream same = rw
 -- and nothing is told of them
 pub part_exchanged : (old new : ControlValue) (rest bytes replies : List ℕ) (xs : List Exchange)
     → old.stream ≡ Some rest → IsBeginning most_bytes (rest ++ bytes) → replies ≡ [] → xs ≡ []
-    → new.served ≡ old.served → TellsServedBy old.stream old bytes replies xs None new
+    → new.served ≡ old.served → ReportsExchangesBy old.stream old bytes replies xs None new
 part_exchanged old new rest bytes replies xs up begins none empty same = rw up (record {
   messages = [];
   tail = unfinished (rest ++ bytes);
@@ -107,7 +107,7 @@ part_exchanged old new rest bytes replies xs up begins none empty same = rw up (
   reason = None;
   cut = record { rest = rest ++ bytes; whole = refl; allowed = tt; ends = (refl, begins) };
   exchanged = (empty, none, refl, same, refl);
-  told = refl;
+  reported = refl;
 })
 
 -- the messages of the stream are answered, and the client keeps what they come to
@@ -118,7 +118,7 @@ pub fed_stream : (old new : ClientValue) (rest bytes : List ℕ) (next : Accepte
     → replies ≡ given → new.accepted ≡ next → new.stream ≡ stream_after ends tail → new.config ≡ old.config
     → is_broken ≡ is_none new.stream → ClientFeeds old bytes replies is_broken versions new
 fed_stream old new rest bytes next messages versions tail ends replies given is_broken up cut answered same state
-    stream config told = rw up (
+    stream config reported = rw up (
       record {
         messages = messages;
         tail = tail;
@@ -128,44 +128,44 @@ fed_stream old new rest bytes next messages versions tail ends replies given is_
         stream = stream;
         config = config;
       },
-      told,
+      reported,
     )
 
 -- bytes that complete no message tell nothing
-pub part_told : (old new : ClientValue) (rest bytes replies : List ℕ) (js : List Judgement) → old.stream ≡ Some rest
+pub part_reported : (old new : ClientValue) (rest bytes replies : List ℕ) (js : List Judgement) → old.stream ≡ Some rest
     → IsBeginning most_bytes (rest ++ bytes) → replies ≡ [] → js ≡ [] → new.accepted ≡ old.accepted
-    → TellsBy old.stream old bytes replies js None new
-part_told old new rest bytes replies js up begins none empty same = rw up (record {
+    → ReportsJudgementsBy old.stream old bytes replies js None new
+part_reported old new rest bytes replies js up begins none empty same = rw up (record {
   messages = [];
   tail = unfinished (rest ++ bytes);
   reason = None;
   cut = record { rest = rest ++ bytes; whole = refl; allowed = tt; ends = (refl, begins) };
   judged = (empty, none, same, refl);
-  told = refl;
+  reported = refl;
 })
 
 -- the judgements of the messages of the stream, and why it ends
-pub told_stream : (old new : ClientValue) (rest bytes : List ℕ) (next : Accepted) (messages : List (List ℕ))
-    (tail : Tail) (reason : Option Ended) (replies given : List ℕ) (js told : List Judgement) (ends : Option Ended)
+pub reported_stream : (old new : ClientValue) (rest bytes : List ℕ) (next : Accepted) (messages : List (List ℕ))
+    (tail : Tail) (reason : Option Ended) (replies given : List ℕ) (js reported : List Judgement) (ends : Option Ended)
     → old.stream ≡ Some rest → Cut (rest ++ bytes) most_bytes messages tail
-    → AreJudged old.config old.accepted messages told given next reason
-    → replies ≡ given → js ≡ told → ends ≡ ended_by reason (fault_in tail) → new.accepted ≡ next
-    → TellsBy old.stream old bytes replies js ends new
-told_stream old new rest bytes next messages tail reason replies given js told ends up cut judged same each is state =
+    → AreJudged old.config old.accepted messages reported given next reason
+    → replies ≡ given → js ≡ reported → ends ≡ ended_by reason (fault_in tail) → new.accepted ≡ next
+    → ReportsJudgementsBy old.stream old bytes replies js ends new
+reported_stream old new rest bytes next messages tail reason replies given js reported ends up cut judged same each is state =
     rw up (record {
       messages = messages;
       tail = tail;
       reason = reason;
       cut = cut;
       judged = rw (same, each, state) judged;
-      told = is;
+      reported = is;
     })
 
 -- nothing is judged if no stream is up
-pub told_down : (stream : Option (List ℕ)) (old new : ClientValue) (bytes replies : List ℕ) (js : List Judgement)
-    → is_some stream ≡ false → js ≡ [] → TellsBy stream old bytes replies js (Some ended.NotUp) new
-told_down None old new bytes replies js down none = (none, refl)
-told_down (Some rest) old new bytes replies js down none = absurd (true≢false down)
+pub reported_down : (stream : Option (List ℕ)) (old new : ClientValue) (bytes replies : List ℕ) (js : List Judgement)
+    → is_some stream ≡ false → js ≡ [] → ReportsJudgementsBy stream old bytes replies js (Some ended.NotUp) new
+reported_down None old new bytes replies js down none = (none, refl)
+reported_down (Some rest) old new bytes replies js down none = absurd (true≢false down)
 
 -- bytes that complete at most one frame
 pub one_known : (t : Tail) (bytes : List ℕ) (messages : List (List ℕ)) (after : Tail) → IsUnfinished t
@@ -197,8 +197,8 @@ kept_after None (unfinished rest) = refl
 pub kept_so : (reason ended : Option Ended) (fault : Option FrameFault) (tail after : Tail) (ends : Bool)
     (stream : Option (List ℕ)) → fault ≡ fault_in tail → ended ≡ ended_by reason fault → ends ≡ is_some ended
     → after ≡ tail → stream ≡ kept_of ends after → stream ≡ stream_after (is_some reason) tail
-kept_so reason ended fault tail after ends stream faulty why told same kept =
-    let is : stream ≡ kept_of (is_some (ended_by reason (fault_in tail))) tail = rw (told, why, faulty, same) at kept in
+kept_so reason ended fault tail after ends stream faulty why reported same kept =
+    let is : stream ≡ kept_of (is_some (ended_by reason (fault_in tail))) tail = rw (reported, why, faulty, same) at kept in
     is ∙ kept_after reason tail
 
 -- a stream that goes on: no message ended it, and its frames are not broken
@@ -238,7 +238,7 @@ pub exchanged_stream : (old new : ControlValue) (rest bytes : List ℕ) (message
     (reason ends : Option Ended) (replies numbers : List ℕ) (xs : List Exchange) → old.stream ≡ Some rest
     → Cut (rest ++ bytes) most_bytes messages tail
     → AreExchanged old.snapshots old.served messages xs replies numbers new.served reason
-    → ends ≡ ended_by reason (fault_in tail) → TellsServedBy old.stream old bytes replies xs ends new
+    → ends ≡ ended_by reason (fault_in tail) → ReportsExchangesBy old.stream old bytes replies xs ends new
 exchanged_stream old new rest bytes messages tail reason ends replies numbers xs up cut is why = rw up (record {
   messages = messages;
   tail = tail;
@@ -246,5 +246,5 @@ exchanged_stream old new rest bytes messages tail reason ends replies numbers xs
   reason = reason;
   cut = cut;
   exchanged = is;
-  told = why;
+  reported = why;
 })

@@ -31,7 +31,7 @@ refuses_none : (limits : LimitsValue) (all : List ExtensionMessage) (f : FilterV
     (given : Option AdmittedValue) → named f.name all ≡ ys → Gives limits f ys given
     → RefusesNothing limits all f
 refuses_none limits all f [] given same gives = inl same
-refuses_none limits all f (x ∷ []) given same (bytes, policies, holds, (written, enforced, admits, limited), told) =
+refuses_none limits all f (x ∷ []) given same (bytes, policies, holds, (written, enforced, admits, limited), reported) =
     inr (bytes, (x, same, holds), (written, admits.admissible))
 refuses_none limits all f (x ∷ y ∷ ys) given same gives = absurd gives
 
@@ -58,12 +58,12 @@ module _ (limits : LimitsValue) (xs : List ExtensionMessage) (yielded : List (Bo
       (filter_of (string_bytes name.now) budget.now) (entries_view after) so_far here)
 
   -- the filter is the first that refuses, and is told
-  pub refuses_here : (given : List (Option Admitted)) (count : ℕ) (e told : Refusing)
+  pub refuses_here : (given : List (Option Admitted)) (count : ℕ) (e reported : Refusing)
       → AllZip (λ f. Gives limits f (named f.name xs)) (entries_view (map deref_pair yielded)) (policies_view given)
-      → count ≡ length given → told.fault ≡ e.fault → told.filter ≡ Some count → told.message ≡ e.message
+      → count ≡ length given → reported.fault ≡ e.fault → reported.filter ≡ Some count → reported.message ≡ e.message
       → Unfit limits xs (filter_of text budget.now) e.fault e.message.now
-      → IsFirstUnfit limits xs (entries_view entries) told
-  refuses_here given count e told so_far counted fault filter message unfit =
+      → IsFirstUnfit limits xs (entries_view entries) reported
+  refuses_here given count e reported so_far counted fault filter message unfit =
       let seen : entries_view entries ≡ entries_view (map deref_pair yielded)
       ++ filter_of (string_bytes name.now) budget.now ∷ entries_view after =
       ap entries_view (sym whole ∙ ap (λ ys. map deref_pair yielded ++ ys) next)

@@ -56,7 +56,7 @@ AreExchanged snapshots old (message ∷ messages) exchanges replies numbers new 
     × AreExchanged snapshots next messages others more later new reason)
 
 -- the bytes of a stream with unfinished bytes complete these requests, and may end the stream
-pub record TellsServed (old : ControlValue) (rest bytes replies : List ℕ) (exchanges : List Exchange)
+pub record ReportsExchanges (old : ControlValue) (rest bytes replies : List ℕ) (exchanges : List Exchange)
     (ends : Option Ended) (new : ControlValue) : Type 0 where
   pub messages : List (List ℕ)
   pub tail : Tail
@@ -64,12 +64,12 @@ pub record TellsServed (old : ControlValue) (rest bytes replies : List ℕ) (exc
   pub reason : Option Ended
   pub cut : Cut (rest ++ bytes) most_bytes messages tail
   pub exchanged : AreExchanged old.snapshots old.served messages exchanges replies numbers new.served reason
-  pub told : ends ≡ ended_by reason (fault_in tail)
+  pub reported : ends ≡ ended_by reason (fault_in tail)
 
 -- bytes arrive: the requests that they complete with what was sent for them, and why the stream ends. There are none if
 -- no stream is up
-abbrev pub TellsServedBy : Option (List ℕ) → ControlValue → List ℕ → List ℕ → List Exchange → Option Ended
+abbrev pub ReportsExchangesBy : Option (List ℕ) → ControlValue → List ℕ → List ℕ → List Exchange → Option Ended
     → ControlValue → Type 0
-TellsServedBy None old bytes replies exchanges ends new = (exchanges ≡ []) × (ends ≡ Some ended.NotUp)
-TellsServedBy (Some rest) old bytes replies exchanges ends new =
-    TellsServed old rest bytes replies exchanges ends new
+ReportsExchangesBy None old bytes replies exchanges ends new = (exchanges ≡ []) × (ends ≡ Some ended.NotUp)
+ReportsExchangesBy (Some rest) old bytes replies exchanges ends new =
+    ReportsExchanges old rest bytes replies exchanges ends new

@@ -18,8 +18,8 @@ use Rattle.ads.specs.Config.{ConfigValue, FilterValue}
 use Rattle.ads.specs.declared.ended.Ended.{Ended}
 use Rattle.ads.specs.declared.ended.Ended.TheVariants as ended
 use Rattle.ads.specs.declared.judgement.Judgement.{Judgement}
-use Rattle.ads.specs.declared.judgement.Outcome.{Outcome}
-use Rattle.ads.specs.declared.judgement.Outcome.TheVariants as outcomes
+use Rattle.ads.specs.declared.judgement.ResponseOutcome.{ResponseOutcome}
+use Rattle.ads.specs.declared.judgement.ResponseOutcome.TheVariants as outcomes
 
 -- the response itself or one of its resources is wrong, for this reason
 abbrev pub IsWrong : ResponseMessage → Refusal → Type 0
@@ -59,7 +59,7 @@ IsRefusedAs c response fault (Some place) bytes = IsRefusedBy c response place f
 
 -- the outcome of a response, its answer, and the accepted state after it. An accepted response says which filters it
 -- gives policies
-abbrev pub HasOutcome : ConfigValue → ResponseMessage → Accepted → Outcome → RequestMessage → Accepted → Type 0
+abbrev pub HasOutcome : ConfigValue → ResponseMessage → Accepted → ResponseOutcome → RequestMessage → Accepted → Type 0
 HasOutcome c response old (outcomes.Accepted given) reply new = (accepts : Accepts c response old new)
     × (given.items ≡ map is_some accepts.given) × (reply ≡ ack_of c response)
 HasOutcome c response old (outcomes.Refused r) reply new =
@@ -93,18 +93,18 @@ AreJudged c old (message ∷ messages) judgements replies new reason =
     × AreJudged c next messages later more new reason)
 
 -- the bytes of a stream with unfinished bytes complete these responses, and may end the stream
-pub record TellsStream (old : ClientValue) (rest bytes replies : List ℕ) (judgements : List Judgement)
+pub record ReportsJudgements (old : ClientValue) (rest bytes replies : List ℕ) (judgements : List Judgement)
     (ends : Option Ended) (new : ClientValue) : Type 0 where
   pub messages : List (List ℕ)
   pub tail : Tail
   pub reason : Option Ended
   pub cut : Cut (rest ++ bytes) most_bytes messages tail
   pub judged : AreJudged old.config old.accepted messages judgements replies new.accepted reason
-  pub told : ends ≡ ended_by reason (fault_in tail)
+  pub reported : ends ≡ ended_by reason (fault_in tail)
 
 -- bytes arrive: the judgements of the responses that they complete, beside the answers, and why the stream ends. There
 -- are no judgements if no stream is up
-abbrev pub TellsBy : Option (List ℕ) → ClientValue → List ℕ → List ℕ → List Judgement → Option Ended → ClientValue
+abbrev pub ReportsJudgementsBy : Option (List ℕ) → ClientValue → List ℕ → List ℕ → List Judgement → Option Ended → ClientValue
     → Type 0
-TellsBy None old bytes replies judgements ends new = (judgements ≡ []) × (ends ≡ Some ended.NotUp)
-TellsBy (Some rest) old bytes replies judgements ends new = TellsStream old rest bytes replies judgements ends new
+ReportsJudgementsBy None old bytes replies judgements ends new = (judgements ≡ []) × (ends ≡ Some ended.NotUp)
+ReportsJudgementsBy (Some rest) old bytes replies judgements ends new = ReportsJudgements old rest bytes replies judgements ends new

@@ -13,7 +13,7 @@ ghost use Rattle.ads.specs.private.Taking.{IsJudged};
 use crate::accepted::Draft;
 use crate::config::Config;
 use crate::ended::Ended;
-use crate::judgement::{Judgement, Outcome, Refused};
+use crate::judgement::{Judgement, Refused, ResponseOutcome};
 use crate::judging::{Judged, judge};
 use crate::refused::{Refusing, memory_apart};
 use crate::reply::{put_ack, put_nack};
@@ -100,7 +100,7 @@ fn acknowledge(
         → AddsJudgement config.now (response_view response.now) old draft.old draft.new) }
     ensures covers { OnOk result (Covers (length config.now.filters) draft.new.given.items) }
 {
-    let outcome = Outcome::Accepted(filters_given(alloc, &given)?);
+    let outcome = ResponseOutcome::Accepted(filters_given(alloc, &given)?);
     let judgement = judgement_of(alloc, response, outcome)?;
     let version = String::from_str(alloc, response.version_info)?;
     put_ack(alloc, config, response, &mut draft.replies)?;
@@ -122,7 +122,7 @@ fn refuse(
         → AddsJudgement config.now (response_view response.now) old draft.old draft.new) }
     ensures given { draft.new.given ≡ draft.old.given }
 {
-    let outcome = Outcome::Refused(refused_of(alloc, refusing)?);
+    let outcome = ResponseOutcome::Refused(refused_of(alloc, refusing)?);
     let judgement = judgement_of(alloc, response, outcome)?;
     let refusal = refusing.fault.refusal;
     let replies = &mut draft.replies;
@@ -142,7 +142,7 @@ fn refuse(
 fn judgement_of(
     alloc: Global,
     response: &DiscoveryResponse<'_>,
-    outcome: Outcome,
+    outcome: ResponseOutcome,
 ) -> Result<Judgement, AllocError>
     ensures version { IfOk result (λ j. string_bytes j.version ≡ (response_view response.now).version_info) }
     ensures nonce { IfOk result (λ j. string_bytes j.nonce ≡ (response_view response.now).nonce) }

@@ -19,7 +19,7 @@ use std::alloc::{AllocError, Global};
 impl Client {
     ghost use Rattle.ads.specs.Client.{CompletesOne, Feeds, WasAdmitted, WasAdmittedAs, new_client, policies_of, stream_down, stream_up};
     ghost use Rattle.ads.specs.Ends.{client_view};
-    ghost use Rattle.ads.specs.Judgements.{TellsBy};
+    ghost use Rattle.ads.specs.Judgements.{ReportsJudgementsBy};
     /// A client that has accepted nothing, and whose stream is down. The only error is out of memory.
     pub fn new(alloc: Global, config: &Config) -> Result<Client, AllocError>
         ensures { IfOk result (λ c. client_view c ≡ new_client config.now) }
@@ -58,7 +58,7 @@ impl Client {
         ensures found { IfOk result (λ fed. (versions : List (List ℕ))
             × Feeds (client_view self.old) bytes.now fed.replies.items (is_some fed.ended) versions
             (client_view self.new)) }
-        ensures judged { IfOk result (λ fed. TellsBy (client_view self.old).stream (client_view self.old) bytes.now
+        ensures judged { IfOk result (λ fed. ReportsJudgementsBy (client_view self.old).stream (client_view self.old) bytes.now
             fed.replies.items fed.judgements.items fed.ended (client_view self.new)) }
         ensures agree { IfOk result (λ fed. fed.broken ≡ is_some fed.ended) }
         ensures config { (client_view self.new).config ≡ (client_view self.old).config }

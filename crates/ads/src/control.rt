@@ -35,7 +35,7 @@ pub struct Control {
 impl Control {
     ghost use Rattle.ads.specs.Control.{ServesBytes, new_control, stream_lost};
     ghost use Rattle.ads.specs.Ends.{control_view};
-    ghost use Rattle.ads.specs.Exchanges.{TellsServedBy};
+    ghost use Rattle.ads.specs.Exchanges.{ReportsExchangesBy};
     ghost use Rattle.ads.specs.Views.{snapshots_view};
     /// A control plane of these snapshots, numbered from 1, that has received no request. It takes no memory.
     pub fn new(alloc: Global, snapshots: Vec<Snapshot>) -> Control
@@ -62,7 +62,7 @@ impl Control {
         ensures found { IfOk result (λ fed. (numbers : List ℕ)
             × ServesBytes (control_view self.old) bytes.now fed.replies.items (is_some fed.ended) numbers
             (control_view self.new)) }
-        ensures told { IfOk result (λ fed. TellsServedBy (control_view self.old).stream (control_view self.old) bytes.now
+        ensures reported { IfOk result (λ fed. ReportsExchangesBy (control_view self.old).stream (control_view self.old) bytes.now
             fed.replies.items fed.exchanges.items fed.ended (control_view self.new)) }
         ensures agree { IfOk result (λ fed. fed.broken ≡ is_some fed.ended) }
         ensures broken { (control_view self.old).stream ≡ None → IsOk result }

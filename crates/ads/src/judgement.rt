@@ -10,12 +10,12 @@ pub struct Judgement {
     /// The response's nonce.
     pub nonce: String,
     /// Whether it is accepted.
-    pub outcome: Outcome,
+    pub outcome: ResponseOutcome,
 }
 
 /// Whether a response is accepted.
 #[derive(Debug, Drop)]
-pub enum Outcome {
+pub enum ResponseOutcome {
     /// It is accepted. Says for each filter, in configured order, whether the response gave it policies.
     Accepted(Vec<bool>),
     /// It is refused, for this reason.

@@ -25,5 +25,5 @@ pub use config::{Config, ConfigFault, Filter};
 pub use control::{Control, Replied};
 pub use ended::Ended;
 pub use exchange::{Exchange, Sent, Word};
-pub use judgement::{Judgement, Outcome, Refused};
+pub use judgement::{Judgement, Refused, ResponseOutcome};
 pub use snapshot::{Resource, Snapshot};

@@ -2,5 +2,5 @@ pub mod PathFaults
 pub mod Forwarding
 pub mod Ports
 pub mod Values
-pub mod Telling
+pub mod ClaimLemmas
 pub mod Unique

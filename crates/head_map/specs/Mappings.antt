@@ -27,24 +27,24 @@ abbrev pub fields_of : MappingValue → List (List ℕ)
 fields_of m = map (λ (one : NamedFact). string_bytes one.field) m.named ++ m.required
 
 -- the name of what a field holds; both ways to hold the address of the request have one name
-abbrev pub told_name : Fact → List ℕ
-told_name facts.Method = codes "method"
-told_name facts.Target = codes "target"
-told_name facts.Host = codes "host"
-told_name facts.Scheme = codes "scheme"
-told_name facts.RemoteIp = codes "remote_ip"
-told_name (facts.ForwardedFor place) = codes "remote_ip"
-told_name facts.DirectRemoteIp = codes "direct_remote_ip"
-told_name facts.SourcePort = codes "source.port"
-told_name (facts.Mtls is) = codes "mtls"
-told_name facts.RequestedServerName = codes "requested_server_name"
-told_name facts.SubjectPeerCertificate = codes "subject_peer_certificate"
-told_name facts.DnsSanPeerCertificate = codes "dns_san_peer_certificate"
-told_name facts.UriSanPeerCertificate = codes "uri_san_peer_certificate"
+abbrev pub fact_name : Fact → List ℕ
+fact_name facts.Method = codes "method"
+fact_name facts.Target = codes "target"
+fact_name facts.Host = codes "host"
+fact_name facts.Scheme = codes "scheme"
+fact_name facts.RemoteIp = codes "remote_ip"
+fact_name (facts.ForwardedFor place) = codes "remote_ip"
+fact_name facts.DirectRemoteIp = codes "direct_remote_ip"
+fact_name facts.SourcePort = codes "source.port"
+fact_name (facts.Mtls is) = codes "mtls"
+fact_name facts.RequestedServerName = codes "requested_server_name"
+fact_name facts.SubjectPeerCertificate = codes "subject_peer_certificate"
+fact_name facts.DnsSanPeerCertificate = codes "dns_san_peer_certificate"
+fact_name facts.UriSanPeerCertificate = codes "uri_san_peer_certificate"
 
 -- the names of all that the fields hold
 abbrev pub facts_of : List NamedFact → List (List ℕ)
-facts_of named = map (λ (one : NamedFact). told_name one.fact) named
+facts_of named = map (λ (one : NamedFact). fact_name one.fact) named
 
 -- no two of the names are the same
 abbrev pub is_distinct : List (List ℕ) → Bool
@@ -61,7 +61,7 @@ has_place _ = true
 abbrev pub keeps : MappingFault → MappingValue → Bool
 keeps faults.BadName m = list_all is_name (fields_of m)
 keeps faults.NamedTwice m = is_distinct (fields_of m)
-keeps faults.ToldTwice m = is_distinct (facts_of m.named)
+keeps faults.ClaimedTwice m = is_distinct (facts_of m.named)
 keeps faults.NoPlace m = list_all (λ (one : NamedFact). has_place one.fact) m.named
 
 -- a mapping keeps all rules

@@ -1,4 +1,4 @@
 -- Definitions that only clauses of private functions and proofs use.
-pub mod Told
+pub mod FieldClaim
 pub mod Client
 pub mod Lines

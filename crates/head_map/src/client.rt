@@ -4,12 +4,12 @@ ghost use Rattle.std.specs.String.{string_bytes};
 ghost use Rattle.attributes.specs.Conn.{text_view};
 ghost use Rattle.attributes.specs.Headers.{Entry, lines_view, values_of};
 ghost use Rattle.head_map.specs.Mapped.{Says, SaysFault, put};
-ghost use Rattle.head_map.specs.private.Client.{IsToldBy, client_view};
-ghost use Rattle.head_map.specs.private.Told.{claim_of};
+ghost use Rattle.head_map.specs.private.Client.{IsClaimedBy, client_view};
+ghost use Rattle.head_map.specs.private.FieldClaims.{claim_of};
 
 use crate::fact::{MapFault, NamedFact};
+use crate::field_claim::{FieldClaim, read};
 use crate::lines::value_of;
-use crate::told::{Told, read};
 use attributes::Conn;
 use std::alloc::{AllocError, Global};
 use std::sync::ArcStr;
@@ -32,13 +32,13 @@ impl Client {
         named: &[NamedFact],
         lines: &[(String, String)],
     ) -> Result<Result<(), MapFault>, AllocError>
-        ensures { IfOk result (λ told. MatchResult told
-            (λ _. IsToldBy (lines_view lines.now) named.now (client_view self.old) (client_view self.new))
+        ensures { IfOk result (λ outcome. MatchResult outcome
+            (λ _. IsClaimedBy (lines_view lines.now) named.now (client_view self.old) (client_view self.new))
             (λ fault. Any (λ n. SaysFault (lines_view lines.now) n fault) named.now)) }
     {
         for one in named {
-            match told_by(one, lines) {
-                Ok(told) => self.put(alloc, told)?,
+            match claim_by(one, lines) {
+                Ok(claim) => self.put(alloc, claim)?,
                 Err(fault) => return Ok(Err(fault)),
             }
         }
@@ -46,28 +46,28 @@ impl Client {
     }
 
     // Takes what a field says.
-    fn put(&mut self, alloc: Global, told: Told<'_>) -> Result<(), AllocError>
-        ensures { OnOk result (client_view self.new ≡ put (claim_of told.entry) (client_view self.old)) }
+    fn put(&mut self, alloc: Global, claim: FieldClaim<'_>) -> Result<(), AllocError>
+        ensures { OnOk result (client_view self.new ≡ put (claim_of claim.entry) (client_view self.old)) }
     {
-        match told {
-            Told::Method(text) => self.method = String::from_str(alloc, text)?,
-            Told::Target(text) => self.target = String::from_str(alloc, text)?,
-            Told::Host(text) => self.host = Some(String::from_str(alloc, text)?),
-            Told::Scheme(text) => self.conn.scheme = ArcStr::from_str(alloc, text)?,
-            Told::RemoteIp(ip) => self.conn.remote_ip = Some(ip),
-            Told::DirectRemoteIp(ip) => self.conn.direct_remote_ip = Some(ip),
-            Told::SourcePort(port) => self.conn.source_port = Some(port),
-            Told::Mtls(is) => self.conn.mtls = Some(is),
-            Told::RequestedServerName(text) => {
+        match claim {
+            FieldClaim::Method(text) => self.method = String::from_str(alloc, text)?,
+            FieldClaim::Target(text) => self.target = String::from_str(alloc, text)?,
+            FieldClaim::Host(text) => self.host = Some(String::from_str(alloc, text)?),
+            FieldClaim::Scheme(text) => self.conn.scheme = ArcStr::from_str(alloc, text)?,
+            FieldClaim::RemoteIp(ip) => self.conn.remote_ip = Some(ip),
+            FieldClaim::DirectRemoteIp(ip) => self.conn.direct_remote_ip = Some(ip),
+            FieldClaim::SourcePort(port) => self.conn.source_port = Some(port),
+            FieldClaim::Mtls(is) => self.conn.mtls = Some(is),
+            FieldClaim::RequestedServerName(text) => {
                 self.conn.requested_server_name = fact_text(alloc, text)?
             }
-            Told::SubjectPeerCertificate(text) => {
+            FieldClaim::SubjectPeerCertificate(text) => {
                 self.conn.subject_peer_certificate = fact_text(alloc, text)?
             }
-            Told::DnsSanPeerCertificate(text) => {
+            FieldClaim::DnsSanPeerCertificate(text) => {
                 self.conn.dns_san_peer_certificate = fact_text(alloc, text)?
             }
-            Told::UriSanPeerCertificate(text) => {
+            FieldClaim::UriSanPeerCertificate(text) => {
                 self.conn.uri_san_peer_certificate = fact_text(alloc, text)?
             }
         }
@@ -86,8 +86,11 @@ fn fact_text(alloc: Global, text: Option<&str>) -> Result<Option<ArcStr>, AllocE
 }
 
 // What the named field of these lines says.
-fn told_by<'a>(named: &NamedFact, lines: &'a [(String, String)]) -> Result<Told<'a>, MapFault>
-    ensures { MatchResult result (λ told. Says (lines_view lines.now) named.now (claim_of told))
+fn claim_by<'a>(
+    named: &NamedFact,
+    lines: &'a [(String, String)],
+) -> Result<FieldClaim<'a>, MapFault>
+    ensures { MatchResult result (λ claim. Says (lines_view lines.now) named.now (claim_of claim))
         (SaysFault (lines_view lines.now) named.now) }
 {
     match value_of(lines, named.field.as_str()) {
@@ -97,13 +100,13 @@ fn told_by<'a>(named: &NamedFact, lines: &'a [(String, String)]) -> Result<Told<
 }
 
 // What the named field says by its one value.
-fn read_value<'a>(named: &NamedFact, value: &'a str) -> Result<Told<'a>, MapFault>
+fn read_value<'a>(named: &NamedFact, value: &'a str) -> Result<FieldClaim<'a>, MapFault>
     ensures { (lines : List Entry) → values_of (string_bytes named.now.field) lines ≡ value.now ∷ []
-        → MatchResult result (λ told. Says lines named.now (claim_of told))
+        → MatchResult result (λ claim. Says lines named.now (claim_of claim))
         (SaysFault lines named.now) }
 {
     match read(&named.fact, value) {
-        Some(told) => Ok(told),
+        Some(claim) => Ok(claim),
         None => Err(MapFault::Unreadable),
     }
 }

@@ -4,6 +4,7 @@
 
 mod client;
 mod fact;
+mod field_claim;
 mod head;
 pub mod laws;
 mod lines;
@@ -11,11 +12,10 @@ mod mapped;
 mod mapping;
 mod parts;
 mod path;
-mod told;
 
 pub use fact::{Fact, MapFault, NamedFact};
 pub use head::head_of;
 pub use mapped::mapped_of;
-pub use mapping::{Mapping, MappingFault, is_field_name, told_name};
+pub use mapping::{Mapping, MappingFault, fact_name, is_field_name};
 pub use parts::Parts;
 pub use path::{PathFault, path_is_strict};

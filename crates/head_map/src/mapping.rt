@@ -6,7 +6,7 @@ ghost use Rattle.std.specs.Str.{bytes_eq};
 ghost use Rattle.std.specs.String.{string_bytes};
 ghost use Rattle.head_map.specs.declared.mapping.MappingFault.{MappingFault};
 ghost use Rattle.head_map.specs.Mapped.{mapping_view};
-ghost use Rattle.head_map.specs.Mappings.{IsMapping, facts_of, fields_of, has_place, is_distinct, is_name, keeps, mapping_of, told_name};
+ghost use Rattle.head_map.specs.Mappings.{IsMapping, facts_of, fields_of, has_place, is_distinct, is_name, keeps, mapping_of, fact_name};
 
 use crate::fact::{Fact, NamedFact};
 use httparse::is_token;
@@ -27,7 +27,7 @@ pub enum MappingFault {
     /// A name is used twice.
     NamedTwice,
     /// Two fields hold the same: a mapping has a `RemoteIp` or a `ForwardedFor`.
-    ToldTwice,
+    ClaimedTwice,
     /// An address is at place 0 from the right.
     NoPlace,
 }
@@ -82,7 +82,7 @@ fn fault_of(
         return Ok(Some(MappingFault::NamedTwice));
     }
     if !are_distinct(&facts) {
-        return Ok(Some(MappingFault::ToldTwice));
+        return Ok(Some(MappingFault::ClaimedTwice));
     }
     if !have_places(named) {
         return Ok(Some(MappingFault::NoPlace));
@@ -115,7 +115,7 @@ fn facts_of<'a>(alloc: Global, named: &'a [NamedFact]) -> Result<Vec<&'a str>, A
 {
     let mut names = Vec::new(alloc);
     for one in named {
-        names.push(told_name(&one.fact))?;
+        names.push(fact_name(&one.fact))?;
     }
     Ok(names)
 }
@@ -194,8 +194,8 @@ fn has_place(fact: &Fact) -> bool
 }
 
 /// The name of what a field holds. Both ways to hold the address of the request have one name.
-pub fn told_name(fact: &Fact) -> &'static str
-    ensures { result.now ≡ told_name fact.now }
+pub fn fact_name(fact: &Fact) -> &'static str
+    ensures { result.now ≡ fact_name fact.now }
 {
     match fact {
         Fact::Method => "method",

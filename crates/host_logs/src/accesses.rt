@@ -5,7 +5,7 @@ use ads::Client;
 use fault_texts::rule_of;
 use head_map::Parts;
 use http_front::{Ask, Case};
-use proxy_core::Told;
+use proxy_core::AnsweredAsk;
 use serve_admin::Verdict;
 use serve_log::{Decision, LogFile, LogFiles, RecordPosition, decision_line};
 use std::alloc::Global;
@@ -23,7 +23,7 @@ pub struct Accesses<F: LogFiles + Drop> {
 
 /// Where and when decisions were made.
 #[derive(Clone, Copy)]
-pub struct Scene<'a> {
+pub struct DecisionContext<'a> {
     /// Milliseconds since 1970.
     pub time: u64,
     /// The connection whose requests were decided.
@@ -57,15 +57,15 @@ impl<F: LogFiles + Drop> Accesses<F> {
     }
 
     /// Logs a decision, unless it is one of the allowed requests that are left out.
-    pub fn tell(&mut self, told: &Told, scene: &Scene<'_>) {
-        if told.reply.case == Case::Allow {
+    pub fn log_decision(&mut self, answered_ask: &AnsweredAsk, context: &DecisionContext<'_>) {
+        if answered_ask.reply.case == Case::Allow {
             self.passed = self.passed.saturating_add(1);
             if self.passed < self.sample {
                 return;
             }
             self.passed = 0;
         }
-        self.log(&decision_of(told, scene));
+        self.log(&decision_of(answered_ask, context));
     }
 
     /// Logs a request on a connection that is not judged, at this time, in milliseconds since 1970, and at this
@@ -122,19 +122,19 @@ fn unjudged_decision<'a>(
 }
 
 // The decision, as it is logged.
-fn decision_of<'a>(told: &'a Told, scene: &Scene<'a>) -> Decision<'a> {
-    let request = match &told.ask {
+fn decision_of<'a>(answered_ask: &'a AnsweredAsk, context: &DecisionContext<'a>) -> Decision<'a> {
+    let request = match &answered_ask.ask {
         Ask::Judge(request, _) => Some(request),
         Ask::Fault(_) => None,
     };
-    let (filter, policy) = match told.reply.matches.len().checked_sub(1) {
-        Some(last) => names_of(told, scene.client, last),
+    let (filter, policy) = match answered_ask.reply.matches.len().checked_sub(1) {
+        Some(last) => names_of(answered_ask, context.client, last),
         None => (None, None),
     };
     Decision {
-        time: scene.time,
-        connection: scene.connection.number,
-        peer: match &scene.connection.peer {
+        time: context.time,
+        connection: context.connection.number,
+        peer: match &context.connection.peer {
             Some(peer) => Some(peer.as_str()),
             None => None,
         },
@@ -150,22 +150,22 @@ fn decision_of<'a>(told: &'a Told, scene: &Scene<'a>) -> Decision<'a> {
             Some(request) => request.header(":authority"),
             None => None,
         },
-        verdict: told.reply.case.verdict(),
-        status: told.reply.case.status(),
+        verdict: answered_ask.reply.case.verdict(),
+        status: answered_ask.reply.case.status(),
         filter,
         policy,
-        generation: told.reply.generation,
-        fault: match told.reply.case {
+        generation: answered_ask.reply.generation,
+        fault: match answered_ask.reply.case {
             Case::Fault(fault) => Some(rule_of(fault)),
             _ => None,
         },
-        record: scene.record,
+        record: context.record,
     }
 }
 
 // The name of the filter that was tried last, and of its policy that matched.
 fn names_of<'a>(
-    told: &Told,
+    answered_ask: &AnsweredAsk,
     client: &'a Client,
     last: usize,
 ) -> (Option<&'a str>, Option<&'a str>) {
@@ -173,7 +173,10 @@ fn names_of<'a>(
         Some(name) => Some(name.as_str()),
         None => None,
     };
-    let policy = match (client.policies().get(last), told.reply.matches.get(last)) {
+    let policy = match (
+        client.policies().get(last),
+        answered_ask.reply.matches.get(last),
+    ) {
         (Some(Some(admitted)), Some(Some(number))) => admitted.policy_name(*number),
         _ => None,
     };

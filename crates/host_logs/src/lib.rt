@@ -7,7 +7,7 @@ mod connections;
 mod logs;
 mod responses;
 
-pub use accesses::{Accesses, Scene, Unjudged, verdict_of};
+pub use accesses::{Accesses, DecisionContext, Unjudged, verdict_of};
 pub use clocks::{micros, unix_millis};
 pub use connections::{Connection, Connections};
 pub use logs::Logs;

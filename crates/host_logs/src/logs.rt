@@ -54,17 +54,17 @@ impl<F: LogFiles + Drop> Logs<F> {
     }
 
     /// The next text on what went wrong with a log.
-    pub fn complaint(&mut self, now: u64) -> Option<String> {
-        if let Some(text) = self.updates.complaint(now) {
+    pub fn fault_report(&mut self, now: u64) -> Option<String> {
+        if let Some(text) = self.updates.fault_report(now) {
             return Some(text);
         }
         if let Some(accesses) = &mut self.accesses {
-            if let Some(text) = accesses.file.complaint(now) {
+            if let Some(text) = accesses.file.fault_report(now) {
                 return Some(text);
             }
         }
         match &mut self.recorder {
-            Some(recorder) => recorder.complaint(now),
+            Some(recorder) => recorder.fault_report(now),
             None => None,
         }
     }

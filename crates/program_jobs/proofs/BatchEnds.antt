@@ -12,8 +12,8 @@ use Rattle.program_jobs.specs.private.BatchJob.{EndsLines, IsBegunBy}
 use Rattle.program_jobs.specs.private.Ending.{EndsResult}
 use Rattle.rbac_judge.specs.private.Judged.{bare, report_with}
 use Rattle.program_jobs.specs.private.Stopping.{MemoryOrStop}
-use Rattle.rbac_judge.specs.private.Printed.{IsPrintedFor, told_with}
-use Rattle.rbac_judge.specs.declared.batch.Basis.{Basis}
+use Rattle.rbac_judge.specs.private.Printed.{IsPrintedFor, with_why}
+use Rattle.rbac_judge.specs.declared.batch.BatchSettings.{BatchSettings}
 use Rattle.program_jobs.specs.declared.batch_job.Start.TheVariants.{Ready}
 use Rattle.program_jobs.specs.declared.job_fault.JobFault.{JobFault}
 use Rattle.program_jobs.specs.declared.job_fault.JobFault.TheVariants as faults
@@ -37,7 +37,7 @@ fresh_buffer remaining r inner is empty room =
 module _ (holds : List ℕ → List ℕ → Type 0) (lacks : (List ℕ × IoError) → Type 0) (input : Option (List ℕ))
     (out out_new errors errors_new : Option (List ℕ)) (status : ℕ) (words : BatchWords) where
   -- the lines were answered by what was read
-  pub ends_of_lines : (basis : Basis) → IsBegunBy holds lacks words (Ready basis)
+  pub ends_of_lines : (basis : BatchSettings) → IsBegunBy holds lacks words (Ready basis)
       → EndsLines basis input out out_new errors errors_new status
       → EndsBatch holds lacks input out out_new errors errors_new status words
   ends_of_lines basis (policy, filter, read, conn, admits, limits, explain) (EndsLines.whole input_new batch good kept) =
@@ -51,7 +51,7 @@ module _ (holds : List ℕ → List ℕ → Type 0) (lacks : (List ℕ × IoErro
   ends_of_lines basis begun (EndsLines.memory left) = EndsBatch.memory left
 
   -- what is printed of a report says as much
-  no_batch_as : (report printed : Report) (why : Why) → IsPrintedFor (told_with why report) printed
+  no_batch_as : (report printed : Report) (why : Why) → IsPrintedFor (with_why why report) printed
       → IsNoBatch holds lacks input out out_new errors errors_new status words (Ok report)
       → IsNoBatch holds lacks input out out_new errors errors_new status words (Ok printed)
   no_batch_as report printed why (inl same) none = rw same none

@@ -5,7 +5,7 @@ use Rattle.rbac_judge.proofs.JudgeLemmas.{less_found}
 use Rattle.rbac_judge.specs.Explain.{IsGiven}
 use Rattle.rbac_judge.specs.Judging.{IsDecision}
 use Rattle.program_jobs.specs.private.Ending.{EndsResult}
-use Rattle.rbac_judge.specs.private.Printed.{IsPrintedFor, less_told, told_with}
+use Rattle.rbac_judge.specs.private.Printed.{IsPrintedFor, without_trials, with_why}
 use Rattle.program_jobs.specs.Jobs.{ChecksTo, EndsConfig, EndsControl, EndsProxy, EndsReplay, EndsReport, IsCheckedAs, IsJudgedAs, IsUnread, JudgesTo, LacksConfig, LeavesFault, LeavesObject, StopsBy, StopsControl, StopsProxy}
 use Rattle.stream_pumps.specs.Rounds.{Link}
 use Rattle.rbac_judge.specs.private.Judged.{bare, report_with}
@@ -28,10 +28,10 @@ nothing_given : {A : Type 0} → ⊥ ↔ (A × ⊥)
 nothing_given = (λ g. absurd g, λ p. p.1)
 
 -- where less is told, as much is given
-less_given : (explanation : Explanation) → IsGiven (less_told explanation) ↔ IsGiven explanation
+less_given : (explanation : Explanation) → IsGiven (without_trials explanation) ↔ IsGiven explanation
 less_given explanations.Absent = (λ g. g, λ g. g)
 less_given (explanations.Trials trials) = (λ g. g, λ g. g)
-less_given (explanations.Untold cause) = (λ g. g, λ g. g)
+less_given (explanations.Unavailable cause) = (λ g. g, λ g. g)
 
 -- a bare finding has no explanation
 none_given : (f : Finding) → f ≡ bare f.outcome → ¬ (IsGiven f.explanation)
@@ -43,7 +43,7 @@ module _ (out out_new errors errors_new : Option (List ℕ)) (status : ℕ) (jso
     (Comes : Result Report JobFault → Type 0) where
   -- the job ends with its result as it was printed
   end_of_result : ((report printed : Report) (why : Why) → Comes (Ok report)
-      → IsPrintedFor (told_with why report) printed → Comes (Ok printed))
+      → IsPrintedFor (with_why why report) printed → Comes (Ok printed))
       → (found : Result Report JobFault) → Comes found
       → EndsResult out out_new errors errors_new status json found
       → EndsReport out out_new errors errors_new status json Comes
@@ -70,7 +70,7 @@ module _ (holds : List ℕ → List ℕ → Type 0) (lacks : (List ℕ × IoErro
 
   -- and to what is printed of that report
   checks_as : (words : CheckWords) (report printed : Report) (why : Why) → ChecksTo holds lacks words (Ok report)
-      → IsPrintedFor (told_with why report) printed → ChecksTo holds lacks words (Ok printed)
+      → IsPrintedFor (with_why why report) printed → ChecksTo holds lacks words (Ok printed)
   checks_as words report printed why comes (inl same) = rw same comes
   checks_as words report printed why (json, none, finds) (inr (inl less)) =
       rw less (json, (λ g. none ((less_given report.explanation).0 g)), finds)
@@ -115,7 +115,7 @@ module _ (holds : List ℕ → List ℕ → Type 0) (lacks : (List ℕ × IoErro
 
   -- and to what is printed of that report
   judges_as : (words : JudgeWords) (report printed : Report) (why : Why) → JudgesTo holds lacks input words (Ok report)
-      → IsPrintedFor (told_with why report) printed → JudgesTo holds lacks input words (Ok printed)
+      → IsPrintedFor (with_why why report) printed → JudgesTo holds lacks input words (Ok printed)
   judges_as words report printed why comes (inl same) = rw same comes
   judges_as words report printed why (json, given, finds) (inr (inl less)) = rw less (
     json,
@@ -147,11 +147,11 @@ module _ (holds : List ℕ → List ℕ → Type 0) (lacks : (List ℕ × IoErro
 
 module _ (out out_new errors errors_new : Option (List ℕ)) (status : ℕ) (fault : JobFault) where
   -- a fault is told in words, or out of memory
-  pub of_told : (told : JobFault) → (told ≡ fault) ⊎ (told ≡ faults.Memory)
-      → LeavesFault out out_new errors errors_new status told
+  pub of_reported : (reported : JobFault) → (reported ≡ fault) ⊎ (reported ≡ faults.Memory)
+      → LeavesFault out out_new errors errors_new status reported
       → EndsResult out out_new errors errors_new status false (Err fault)
-  of_told told (inl same) left = inl (rw same at left)
-  of_told told (inr none) left = inr (rw none at left)
+  of_reported reported (inl same) left = inl (rw same at left)
+  of_reported reported (inr none) left = inr (rw none at left)
 
   -- or with JSON
   pub of_object : LeavesObject out out_new errors errors_new status fault
@@ -163,38 +163,38 @@ module _ (out out_new errors errors_new : Option (List ℕ)) (status : ℕ) (fau
 module _ (holds : List ℕ → List ℕ → Type 0) (lacks : (List ℕ × IoError) → Type 0)
     (out out_new errors errors_new : Option (List ℕ)) (status : ℕ) where
   -- where there is no configuration, that is told, or out of memory
-  pub end_of_config : (path : List ℕ) (fault told : JobFault) → MemoryOrStop (LacksConfig holds lacks path) fault
-      → (told ≡ fault) ⊎ (told ≡ faults.Memory) → LeavesFault out out_new errors errors_new status told
+  pub end_of_config : (path : List ℕ) (fault reported : JobFault) → MemoryOrStop (LacksConfig holds lacks path) fault
+      → (reported ≡ fault) ⊎ (reported ≡ faults.Memory) → LeavesFault out out_new errors errors_new status reported
       → EndsConfig holds lacks out out_new errors errors_new status path
-  end_of_config path fault told (inl none) (inl same) left = EndsConfig.memory (rw (same, none) at left)
-  end_of_config path fault told (inr lacking) (inl same) left = EndsConfig.lacking fault lacking (rw same at left)
-  end_of_config path fault told stops (inr none) left = EndsConfig.memory (rw none at left)
+  end_of_config path fault reported (inl none) (inl same) left = EndsConfig.memory (rw (same, none) at left)
+  end_of_config path fault reported (inr lacking) (inl same) left = EndsConfig.lacking fault lacking (rw same at left)
+  end_of_config path fault reported stops (inr none) left = EndsConfig.memory (rw none at left)
 
   -- and where a replay needs it
-  pub end_of_replay : (path : List ℕ) (only : Option ℕ) (input : Option (List ℕ)) (fault told : JobFault)
+  pub end_of_replay : (path : List ℕ) (only : Option ℕ) (input : Option (List ℕ)) (fault reported : JobFault)
       → MemoryOrStop (LacksConfig holds lacks path) fault
-      → (told ≡ fault) ⊎ (told ≡ faults.Memory) → LeavesFault out out_new errors errors_new status told
+      → (reported ≡ fault) ⊎ (reported ≡ faults.Memory) → LeavesFault out out_new errors errors_new status reported
       → EndsReplay holds lacks out out_new errors errors_new status path only input
-  end_of_replay path only input fault told (inl none) (inl same) left = EndsReplay.memory (rw (same, none) at left)
-  end_of_replay path only input fault told (inr lacking) (inl same) left =
+  end_of_replay path only input fault reported (inl none) (inl same) left = EndsReplay.memory (rw (same, none) at left)
+  end_of_replay path only input fault reported (inr lacking) (inl same) left =
       EndsReplay.lacking fault lacking (rw same at left)
-  end_of_replay path only input fault told stops (inr none) left = EndsReplay.memory (rw none at left)
+  end_of_replay path only input fault reported stops (inr none) left = EndsReplay.memory (rw none at left)
 
 module _ (holds : List ℕ → List ℕ → Type 0) (lacks : (List ℕ × IoError) → Type 0)
     (connects accepts : List ℕ → Option Link → Type 0) (out out_new errors errors_new : Option (List ℕ)) (status : ℕ) where
   -- where a control plane does not serve, that is told, or out of memory
-  pub end_of_control : (words : ControlWords) (fault told : JobFault)
+  pub end_of_control : (words : ControlWords) (fault reported : JobFault)
       → MemoryOrStop (StopsControl holds lacks words) fault
-      → (told ≡ fault) ⊎ (told ≡ faults.Memory) → LeavesFault out out_new errors errors_new status told
+      → (reported ≡ fault) ⊎ (reported ≡ faults.Memory) → LeavesFault out out_new errors errors_new status reported
       → EndsControl holds lacks connects accepts out out_new errors errors_new status words
-  end_of_control words fault told (inl none) (inl same) left = EndsControl.memory (rw (same, none) at left)
-  end_of_control words fault told (inr stops) (inl same) left = EndsControl.stopped fault stops (rw same at left)
-  end_of_control words fault told stops (inr none) left = EndsControl.memory (rw none at left)
+  end_of_control words fault reported (inl none) (inl same) left = EndsControl.memory (rw (same, none) at left)
+  end_of_control words fault reported (inr stops) (inl same) left = EndsControl.stopped fault stops (rw same at left)
+  end_of_control words fault reported stops (inr none) left = EndsControl.memory (rw none at left)
 
   -- where a proxy runs no round
-  pub end_of_proxy : (words : ProxyWords) (fault told : JobFault) → MemoryOrStop (StopsProxy holds lacks words) fault
-      → (told ≡ fault) ⊎ (told ≡ faults.Memory) → LeavesFault out out_new errors errors_new status told
+  pub end_of_proxy : (words : ProxyWords) (fault reported : JobFault) → MemoryOrStop (StopsProxy holds lacks words) fault
+      → (reported ≡ fault) ⊎ (reported ≡ faults.Memory) → LeavesFault out out_new errors errors_new status reported
       → EndsProxy holds lacks connects accepts out out_new errors errors_new status words
-  end_of_proxy words fault told (inl none) (inl same) left = EndsProxy.memory (rw (same, none) at left)
-  end_of_proxy words fault told (inr stops) (inl same) left = EndsProxy.stopped fault stops (rw same at left)
-  end_of_proxy words fault told stops (inr none) left = EndsProxy.memory (rw none at left)
+  end_of_proxy words fault reported (inl none) (inl same) left = EndsProxy.memory (rw (same, none) at left)
+  end_of_proxy words fault reported (inr stops) (inl same) left = EndsProxy.stopped fault stops (rw same at left)
+  end_of_proxy words fault reported stops (inr none) left = EndsProxy.memory (rw none at left)

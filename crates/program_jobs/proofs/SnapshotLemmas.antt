@@ -16,7 +16,7 @@ use Rattle.command_line.specs.Words.{AreGrouped}
 use Rattle.program_jobs.specs.declared.job_fault.JobFault.{JobFault}
 
 -- parameters: what holds of a read element and what it gives, what that says of the element, and what is looked for
-module _ {B C : Type 0} (R : B → C → Type 0) (Q P : B → Type 0) (tells : (x : B) (y : C) → R x y → Q x) where
+module _ {B C : Type 0} (R : B → C → Type 0) (Q P : B → Type 0) (reports : (x : B) (y : C) → R x y → Q x) where
   -- it holds at this place, and the elements before it were read
   pub first_at : {A : Type 0} (seen : A → B) (xs : List A) (i : ℕ) (d : A) (ys : List C)
       → i < length xs → AllZip R (map seen (take i xs)) ys → P (seen (get_or xs i d)) → FirstOf Q P (map seen xs)
@@ -24,7 +24,7 @@ module _ {B C : Type 0} (R : B → C → Type 0) (Q P : B → Type 0) (tells : (
   first_at seen (x ∷ xs) zero d ys within read p = inl p
   first_at seen (x ∷ xs) (suc i) d [] within read p = absurd read
   first_at seen (x ∷ xs) (suc i) d (y ∷ ys) within (here, rest) p =
-      inr (tells (seen x) y here, first_at seen xs i d ys (omega arith) rest p)
+      inr (reports (seen x) y here, first_at seen xs i d ys (omega arith) rest p)
 
   -- it holds first of one behind elements that were read
   pub first_behind : (xs others : List B) (ys : List C) → AllZip R xs ys → FirstOf Q P others
@@ -32,7 +32,7 @@ module _ {B C : Type 0} (R : B → C → Type 0) (Q P : B → Type 0) (tells : (
   first_behind [] others ys read first = first
   first_behind (x ∷ xs) others [] read first = absurd read
   first_behind (x ∷ xs) others (y ∷ ys) (here, rest) first =
-      inr (tells x y here, first_behind xs others ys rest first)
+      inr (reports x y here, first_behind xs others ys rest first)
 
 -- it holds first of one before others
 pub first_before : {B : Type 0} (Q P : B → Type 0) (xs others : List B) → FirstOf Q P xs → FirstOf Q P (xs ++ others)

@@ -18,11 +18,11 @@ use Rattle.clap.specs.declared.error.kind.ErrorKind.{ErrorKind}
 use Rattle.clap.specs.declared.error.kind.ErrorKind.TheVariants as kinds
 use Rattle.rbac_policy.specs.Admission.{Admissible}
 use Rattle.proto_wire.specs.declared.refusal.Refusal.{Refusal}
-use Rattle.rbac_judge.specs.Explain.{IsGiven, untold_text}
+use Rattle.rbac_judge.specs.Explain.{IsGiven, unavailable_text}
 use Rattle.ads.specs.Config.{ConfigValue}
 use Rattle.proxy_replay.specs.Configuration.{IsConfigText}
 use Rattle.std.specs.Fmt.{decimal}
-use Rattle.program_texts.specs.Facts.{IsFactsText, TellsNone}
+use Rattle.program_texts.specs.Facts.{IsFactsText, MeansNoFacts}
 use Rattle.proxy_replay.specs.Replays.{IsReplayed, IsStopped}
 use Rattle.program_texts.specs.declared.replay_fault.ReplayFault.{ReplayFault}
 use Rattle.program_texts.specs.declared.replay_fault.ReplayFault.TheVariants as replay_faults
@@ -65,7 +65,7 @@ module _ (holds : Text → Text → Type 0) (lacks : (Text × IoError) → Type 
   -- the file at this path holds no facts within the limits
   abbrev pub HasBadFacts : Text → JobFault → Type 0
   HasBadFacts path fault =
-      (text : Text) × holds path text × TellsNone text × (fault ≡ faults.Facts)
+      (text : Text) × holds path text × MeansNoFacts text × (fault ≡ faults.Facts)
 
   -- the fault says that the input cannot be read, and the cause is not out of memory
   abbrev pub IsInputFault : JobFault → Type 0
@@ -164,16 +164,16 @@ abbrev pub IsShown : ErrorKind → Type 0
 IsShown kind = (kind ≡ kinds.DisplayHelp) ⊎ (kind ≡ kinds.DisplayVersion)
 
 -- standard error for a verdict: if the trials cannot be shown, the cause is written; otherwise nothing is
-abbrev pub TellsCause : Option Text → Option Text → Explanation → Type 0
-TellsCause errors errors_new explanations.Absent = errors_new ≡ errors
-TellsCause errors errors_new (explanations.Trials trials) = errors_new ≡ errors
-TellsCause errors errors_new (explanations.Untold cause) = Takes errors errors_new (untold_text cause)
+abbrev pub WritesCause : Option Text → Option Text → Explanation → Type 0
+WritesCause errors errors_new explanations.Absent = errors_new ≡ errors
+WritesCause errors errors_new (explanations.Trials trials) = errors_new ≡ errors
+WritesCause errors errors_new (explanations.Unavailable cause) = Takes errors errors_new (unavailable_text cause)
 
 -- standard error for an outcome: any text after a refusal or a head's fault; otherwise as for a verdict
-abbrev pub IsTold : Option Text → Option Text → Explanation → Outcome → Type 0
-IsTold errors errors_new explanation (outcomes.Refused reason) = ⊤
-IsTold errors errors_new explanation (outcomes.Fault fault) = ⊤
-IsTold errors errors_new explanation _ = TellsCause errors errors_new explanation
+abbrev pub WritesCauseFor : Option Text → Option Text → Explanation → Outcome → Type 0
+WritesCauseFor errors errors_new explanation (outcomes.Refused reason) = ⊤
+WritesCauseFor errors errors_new explanation (outcomes.Fault fault) = ⊤
+WritesCauseFor errors errors_new explanation _ = WritesCause errors errors_new explanation
 
 -- parameters: the bytes of the two outputs before a run (`out` and `errors`) and after it (`out_new` and `errors_new`),
 -- and its status
@@ -186,32 +186,32 @@ module _ (out out_new errors errors_new : Option Text) (status : ℕ) where
 
   -- nothing is written to standard output, and this is the status. A text that begins with `text` is written to
   -- standard error, or a beginning of it, if that fails
-  abbrev pub Tells : ℕ → Text → Type 0
-  Tells bad text = (status ≡ bad) × (out_new ≡ out)
-      × ((told : Text) × StartsWith told text × Takes errors errors_new told)
+  abbrev pub WritesError : ℕ → Text → Type 0
+  WritesError bad text = (status ≡ bad) × (out_new ≡ out)
+      × ((reported : Text) × StartsWith reported text × Takes errors errors_new reported)
 
   -- if the words ask for a text, it is written to standard output, with status 0. Otherwise some text is written to
   -- standard error, with status 2
-  abbrev pub TellsWords : ErrorKind → Type 0
-  TellsWords kind = (IsShown kind × ((text : Text) × Prints 0 text))
-      ⊎ ((¬ IsShown kind) × Tells 2 [])
+  abbrev pub WritesWords : ErrorKind → Type 0
+  WritesWords kind = (IsShown kind × ((text : Text) × Prints 0 text))
+      ⊎ ((¬ IsShown kind) × WritesError 2 [])
 
   -- the outputs and the status of a run that this fault stops
   abbrev pub LeavesFault : JobFault → Type 0
-  LeavesFault (faults.Words error) = TellsWords (kind_of error)
-  LeavesFault (faults.File path cause) = Tells 2 (first_line (faults.File path cause))
-  LeavesFault faults.Facts = Tells 6 (first_line faults.Facts)
-  LeavesFault faults.Config = Tells 6 (first_line faults.Config)
-  LeavesFault (faults.Input cause) = Tells 2 (first_line (faults.Input cause))
-  LeavesFault (faults.Log path cause) = Tells 2 (first_line (faults.Log path cause))
-  LeavesFault (faults.Listen address cause) = Tells 2 (first_line (faults.Listen address cause))
+  LeavesFault (faults.Words error) = WritesWords (kind_of error)
+  LeavesFault (faults.File path cause) = WritesError 2 (first_line (faults.File path cause))
+  LeavesFault faults.Facts = WritesError 6 (first_line faults.Facts)
+  LeavesFault faults.Config = WritesError 6 (first_line faults.Config)
+  LeavesFault (faults.Input cause) = WritesError 2 (first_line (faults.Input cause))
+  LeavesFault (faults.Log path cause) = WritesError 2 (first_line (faults.Log path cause))
+  LeavesFault (faults.Listen address cause) = WritesError 2 (first_line (faults.Listen address cause))
   LeavesFault faults.Memory = Prints 5 (line_of outcomes.Memory)
 
   -- the fault's object, with some cause, is written to standard output, and its line to standard error, unless that
   -- fails. Or standard output breaks off
   abbrev pub LeavesObject : JobFault → Type 0
   LeavesObject fault = (cause : Text) × (((status ≡ status_of_fault fault) × Appends out out_new (fault_object fault cause)
-      × ((told : Text) × StartsWith told (first_line fault) × Takes errors errors_new told))
+      × ((reported : Text) × StartsWith reported (first_line fault) × Takes errors errors_new reported))
       ⊎ ((status ≡ 2) × BreaksOff out out_new (fault_object fault cause)))
 
   -- the outputs and the status of a job with a report that this fault stops, with or without a JSON object
@@ -222,7 +222,7 @@ module _ (out out_new errors errors_new : Option Text) (status : ℕ) where
   -- the text of the report is written to standard output
   abbrev pub PrintsReport : Report → Type 0
   PrintsReport report = ((status ≡ status_of report.outcome) × Appends out out_new (printed_of report)
-      × IsTold errors errors_new report.explanation report.outcome)
+      × WritesCauseFor errors errors_new report.explanation report.outcome)
       ⊎ ((status ≡ 2) × BreaksOff out out_new (printed_of report))
 
   -- the outputs and the status for this result of a job, as JSON or in words
@@ -241,14 +241,14 @@ bad_line number = codes "bad line " ++ (decimal number ++ (10 ∷ []))
 
 -- a text that begins with the line for a bad line is written to standard error, with status 6. Or memory ran out, with
 -- status 5
-abbrev pub TellsLine : Option Text → Option Text → ℕ → ℕ → Type 0
-TellsLine errors errors_new status number = ((status ≡ 5) × (errors_new ≡ errors))
-    ⊎ ((status ≡ 6) × ((told : Text) × StartsWith told (bad_line number) × Takes errors errors_new told))
+abbrev pub WritesLine : Option Text → Option Text → ℕ → ℕ → Type 0
+WritesLine errors errors_new status number = ((status ≡ 5) × (errors_new ≡ errors))
+    ⊎ ((status ≡ 6) × ((reported : Text) × StartsWith reported (bad_line number) × Takes errors errors_new reported))
 
 -- standard error and the status of a replay or a batch that ended before its input did. The answers until then are on standard
 -- output
 abbrev pub LeavesReplay : Option Text → Option Text → ℕ → ReplayFault → Type 0
-LeavesReplay errors errors_new status (replay_faults.Line number cause) = TellsLine errors errors_new status number
+LeavesReplay errors errors_new status (replay_faults.Line number cause) = WritesLine errors errors_new status number
 LeavesReplay errors errors_new status (replay_faults.Input cause) = (status ≡ 5) ⊎ (status ≡ 2)
 LeavesReplay errors errors_new status (replay_faults.Output cause) = status ≡ 2
 LeavesReplay errors errors_new status replay_faults.Memory = (status ≡ 5) × (errors_new ≡ errors)
@@ -399,7 +399,7 @@ module _ (holds : Text → Text → Type 0) (lacks : (Text × IoError) → Type 
         → fault ≡ faults.Facts → LacksFit facts_path limits fault
 
   -- the configuration and the facts on the command line; the facts are within the configuration's limits
-  pub record IsSetUp (words : ProxyWords) (c : ConfigValue) (facts : Facts) : Type 0 where
+  pub record IsConfigured (words : ProxyWords) (c : ConfigValue) (facts : Facts) : Type 0 where
     pub config : IsConfigOf holds lacks (string_bytes words.config) c
     pub conn : IsConnOf holds lacks (option_map string_bytes words.facts) facts
     pub fits : FactsInLimits facts c.limits
@@ -410,9 +410,9 @@ module _ (holds : Text → Text → Type 0) (lacks : (Text × IoError) → Type 
     no_config : LacksConfig holds lacks (string_bytes words.config) fault → StopsProxy words fault
     no_facts : (c : ConfigValue) → IsConfigOf holds lacks (string_bytes words.config) c
         → LacksFit (option_map string_bytes words.facts) c.limits fault → StopsProxy words fault
-    no_log : (c : ConfigValue) (facts : Facts) → IsSetUp words c facts
+    no_log : (c : ConfigValue) (facts : Facts) → IsConfigured words c facts
         → CannotLog (option_map string_bytes words.log) fault → StopsProxy words fault
-    no_listener : (c : ConfigValue) (facts : Facts) → IsSetUp words c facts
+    no_listener : (c : ConfigValue) (facts : Facts) → IsConfigured words c facts
         → CannotListen (string_bytes words.listen) fault → StopsProxy words fault
 
 -- parameters: a source of files, and sockets. `connects` says which stream connecting to an address gives, or that it
@@ -432,7 +432,7 @@ module _ (holds : Text → Text → Type 0) (lacks : (Text × IoError) → Type 
   pub record IsProxied (words : ProxyWords) : Type 0 where
     pub c : ConfigValue
     pub facts : Facts
-    pub set_up : IsSetUp holds lacks words c facts
+    pub configured : IsConfigured holds lacks words c facts
     pub after : ProxyValue
     pub link : Option Link
     pub rounds : Rounds (connects (string_bytes words.control)) (accepts (string_bytes words.listen)) facts words.rounds

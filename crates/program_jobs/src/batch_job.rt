@@ -15,7 +15,7 @@ use crate::settings::end_replay;
 use attributes::Limits;
 use command_line::BatchWords;
 use proto_wire::Refusal;
-use rbac_judge::batch::{BLOCK, Basis, batch};
+use rbac_judge::batch::{BLOCK, BatchSettings, batch};
 use rbac_judge::judge::Finding;
 use rbac_judge::{Notes, Outcome};
 use rbac_policy::admit;
@@ -26,7 +26,7 @@ use std::io::{BufReader, Read, Write};
 #[derive(Drop)]
 enum Start {
     /// The policy is admitted, and heads are judged by this.
-    Ready(Basis),
+    Ready(BatchSettings),
     /// The policy is refused.
     Refused(Refusal),
 }
@@ -76,7 +76,7 @@ fn begin<F: Source>(
     let bytes = read_file(alloc, files, words.policy.as_str())?;
     let conn = conn_of(alloc, words.facts, files, notes)?;
     match admit(alloc, &bytes, &Limits::largest(), words.budget) {
-        Ok(admitted) => Ok(Start::Ready(Basis {
+        Ok(admitted) => Ok(Start::Ready(BatchSettings {
             policy: bytes,
             admitted,
             conn,
@@ -92,7 +92,7 @@ fn begin<F: Source>(
 /// Answers the lines of the input. Returns the status.
 fn answer_lines<R: Read + Drop, W: Write, E: Write>(
     alloc: Global,
-    basis: &Basis,
+    basis: &BatchSettings,
     input: R,
     out: &mut W,
     errors: &mut E,

@@ -30,9 +30,9 @@ pub fn end_by<W: Write, E: Write>(
     out: &mut W,
     errors: &mut E,
 ) -> u8
-    ensures { (told : JobFault) × ((told ≡ fault.now) ⊎ (told ≡ JobFault.Memory))
+    ensures { (reported : JobFault) × ((reported ≡ fault.now) ⊎ (reported ≡ JobFault.Memory))
         × LeavesFault (W.contents out.old) (W.contents out.new) (E.contents errors.old)
-        (E.contents errors.new) result told }
+        (E.contents errors.new) result reported }
 {
     let Ok(text) = text_of(alloc, fault, notes) else {
         return end_by_memory(out, errors);
@@ -40,12 +40,12 @@ pub fn end_by<W: Write, E: Write>(
     match fault {
         JobFault::Memory => end_by_memory(out, errors),
         JobFault::Words(error) if is_shown(error.kind()) => show(text.as_bytes(), 0, out, errors),
-        JobFault::Facts | JobFault::Config => tell(text.as_bytes(), BAD_JSON, errors),
-        JobFault::Words(_) => tell(text.as_bytes(), MISTAKE, errors),
-        JobFault::File(..) => tell(text.as_bytes(), MISTAKE, errors),
-        JobFault::Input(_) => tell(text.as_bytes(), MISTAKE, errors),
-        JobFault::Log(..) => tell(text.as_bytes(), MISTAKE, errors),
-        JobFault::Listen(..) => tell(text.as_bytes(), MISTAKE, errors),
+        JobFault::Facts | JobFault::Config => write_error(text.as_bytes(), BAD_JSON, errors),
+        JobFault::Words(_) => write_error(text.as_bytes(), MISTAKE, errors),
+        JobFault::File(..) => write_error(text.as_bytes(), MISTAKE, errors),
+        JobFault::Input(_) => write_error(text.as_bytes(), MISTAKE, errors),
+        JobFault::Log(..) => write_error(text.as_bytes(), MISTAKE, errors),
+        JobFault::Listen(..) => write_error(text.as_bytes(), MISTAKE, errors),
     }
 }
 
@@ -130,14 +130,14 @@ pub fn show<W: Write, E: Write>(text: &[u8], status: u8, out: &mut W, errors: &m
 {
     match write_whole(out, text) {
         Ok(()) => status,
-        Err(cause) => tell_output(cause, errors),
+        Err(cause) => write_output_fault(cause, errors),
     }
 }
 
 /// Prints this text on standard error, and returns this status, even if that fails.
-pub fn tell<E: Write>(text: &[u8], status: u8, errors: &mut E) -> u8
+pub fn write_error<E: Write>(text: &[u8], status: u8, errors: &mut E) -> u8
     ensures status { result ≡ status }
-    ensures told { Takes (E.contents errors.old) (E.contents errors.new) text.now }
+    ensures reported { Takes (E.contents errors.old) (E.contents errors.new) text.now }
 {
     let _ = write_whole(errors, text);
     status
@@ -145,7 +145,7 @@ pub fn tell<E: Write>(text: &[u8], status: u8, errors: &mut E) -> u8
 
 /// Ends with status 2 after a failure of standard output. It prints the cause on standard error, unless the reader
 /// closed the pipe.
-pub(crate) fn tell_output<E: Write>(cause: io::Error, errors: &mut E) -> u8
+pub(crate) fn write_output_fault<E: Write>(cause: io::Error, errors: &mut E) -> u8
     ensures { result ≡ 2 }
 {
     if cause.kind() != ErrorKind::BrokenPipe {

@@ -5,7 +5,7 @@ ghost use Rattle.rbac_judge.specs.Json.{fault_json};
 ghost use Rattle.program_jobs.specs.Jobs.{LeavesFault, LeavesObject, fault_object, fault_words, status_of_fault};
 ghost use Rattle.program_jobs.specs.declared.job_fault.JobFault.{JobFault};
 
-use crate::ending::{BAD_JSON, MISTAKE, end_by_memory, tell, tell_output, text_of};
+use crate::ending::{BAD_JSON, MISTAKE, end_by_memory, text_of, write_error, write_output_fault};
 use crate::job_fault::JobFault;
 use program_texts::shown::shown;
 use program_texts::write_whole;
@@ -35,8 +35,8 @@ pub(crate) fn end_in_json<W: Write, E: Write>(
         return end_by_memory(out, errors);
     };
     match write_whole(out, line.as_bytes()) {
-        Ok(()) => tell(text.as_bytes(), status_of(fault), errors),
-        Err(cause) => tell_output(cause, errors),
+        Ok(()) => write_error(text.as_bytes(), status_of(fault), errors),
+        Err(cause) => write_output_fault(cause, errors),
     }
 }
 

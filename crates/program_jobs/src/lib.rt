@@ -12,18 +12,20 @@ mod recorded;
 mod reporting;
 mod reports;
 mod serve;
+mod server_settings;
 mod settings;
-mod setup;
 mod snapshots;
 mod sockets;
 
 pub use batch_job::run_batch;
-pub use ending::{MISTAKE, end_by, end_by_memory, show, tell};
+pub use ending::{MISTAKE, end_by, end_by_memory, show, write_error};
 pub use files::Source;
 pub use job_fault::JobFault;
 pub use reading::read_file;
 pub use reports::{run_check, run_judge};
 pub use serve::{run_control, run_proxy};
+pub use server_settings::{
+    ServerSettings, ServerSettingsFault, read_server_settings, server_settings_text,
+};
 pub use settings::{check_config, replay_config};
-pub use setup::{Setup, SetupFault, read_setup, setup_text};
 pub use sockets::{Listen, Sockets};

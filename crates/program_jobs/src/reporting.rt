@@ -1,11 +1,11 @@
 //! Prints the result of a job that has a report, and says on standard error why it is no verdict.
 ghost use Rattle.std.specs.Prelude.{◌≡◌, ◌≢◌, Err, IfErr, IfOk, Ok};
-ghost use Rattle.program_jobs.specs.Jobs.{IsTold, TellsCause};
+ghost use Rattle.program_jobs.specs.Jobs.{WritesCauseFor, WritesCause};
 ghost use Rattle.rbac_judge.specs.private.Judged.{bare, report_with};
 ghost use Rattle.program_jobs.specs.private.Ending.{EndsResult, EndsWith};
 ghost use Rattle.program_jobs.specs.declared.job_fault.JobFault.{JobFault};
 
-use crate::ending::{end_by, tell_output};
+use crate::ending::{end_by, write_output_fault};
 use crate::fault_json::end_in_json;
 use crate::job_fault::JobFault;
 use fault_texts::rule_of;
@@ -13,7 +13,7 @@ use http_front::HeadFault;
 use program_texts::write_whole;
 use proto_wire::Refusal;
 use rbac_judge::judge::{Finding, print_report};
-use rbac_judge::{Explanation, Notes, Outcome, Report, untold_text};
+use rbac_judge::{Explanation, Notes, Outcome, Report, unavailable_text};
 use std::alloc::Global;
 use std::io::Write;
 
@@ -48,12 +48,12 @@ fn end_report<W: Write, E: Write>(
         (E.contents errors.new) result report }
 {
     let why = notes.why(alloc, report.outcome);
-    match print_report(alloc, report.told(why), out) {
+    match print_report(alloc, report.with_why(why), out) {
         Ok(printed) => {
-            tell_below(&printed, notes, errors);
+            write_notes(&printed, notes, errors);
             printed.outcome.status()
         }
-        Err(cause) => tell_output(cause, errors),
+        Err(cause) => write_output_fault(cause, errors),
     }
 }
 
@@ -72,36 +72,36 @@ pub(crate) fn report_of(found: Result<Finding, JobFault>, json: bool) -> Result<
 
 /// Prints why an outcome is no verdict, or why a verdict is not explained, on standard error. A failure there is
 /// ignored.
-fn tell_below<E: Write>(report: &Report, notes: &Notes, errors: &mut E)
-    ensures { IsTold (E.contents errors.old) (E.contents errors.new) report.now.explanation
+fn write_notes<E: Write>(report: &Report, notes: &Notes, errors: &mut E)
+    ensures { WritesCauseFor (E.contents errors.old) (E.contents errors.new) report.now.explanation
         report.now.outcome }
 {
     match report.outcome {
-        Outcome::Refused(refusal) => tell_refusal(refusal, notes, errors),
-        Outcome::Fault(fault) => tell_head(fault, notes, errors),
+        Outcome::Refused(refusal) => write_refusal(refusal, notes, errors),
+        Outcome::Fault(fault) => write_head_fault(fault, notes, errors),
         Outcome::Admitted { .. }
         | Outcome::Allowed(_)
         | Outcome::Denied(_)
         | Outcome::OutOfSteps
-        | Outcome::Memory => tell_untold(&report.explanation, errors),
+        | Outcome::Memory => write_cause(&report.explanation, errors),
     }
 }
 
 /// Prints why there is no explanation, if one was asked for.
-fn tell_untold<E: Write>(explanation: &Explanation, errors: &mut E)
-    ensures { TellsCause (E.contents errors.old) (E.contents errors.new) explanation.now }
+fn write_cause<E: Write>(explanation: &Explanation, errors: &mut E)
+    ensures { WritesCause (E.contents errors.old) (E.contents errors.new) explanation.now }
 {
     match explanation {
         Explanation::Absent => {}
         Explanation::Trials(_) => {}
-        Explanation::Untold(cause) => {
-            let _ = write_whole(errors, untold_text(*cause));
+        Explanation::Unavailable(cause) => {
+            let _ = write_whole(errors, unavailable_text(*cause));
         }
     }
 }
 
 /// Prints the rule that a head breaks, and the part that exceeds its limit.
-fn tell_head<E: Write>(fault: HeadFault, notes: &Notes, errors: &mut E) {
+fn write_head_fault<E: Write>(fault: HeadFault, notes: &Notes, errors: &mut E) {
     let _ = writeln!(errors, "  {}", rule_of(fault));
     if let Some(cause) = &notes.head {
         let _ = writeln!(errors, "  {cause}");
@@ -109,7 +109,7 @@ fn tell_head<E: Write>(fault: HeadFault, notes: &Notes, errors: &mut E) {
 }
 
 /// Prints the meaning of the refusal, the part of the policy file that has the fault, and what the file looks like.
-fn tell_refusal<E: Write>(refusal: Refusal, notes: &Notes, errors: &mut E) {
+fn write_refusal<E: Write>(refusal: Refusal, notes: &Notes, errors: &mut E) {
     let _ = writeln!(errors, "  {}", notes.part.meaning(refusal));
     if let Some(place) = &notes.part.place {
         let _ = writeln!(errors, "  {place}: {refusal}");

@@ -1,11 +1,11 @@
 //! The jobs that begin with reading a configuration: `check-config` and `replay`.
 ghost use Rattle.std.specs.Prelude.{◌≡◌, ◌⊎◌, IfErr, IfOk, string_bytes};
 ghost use Rattle.std.specs.Io.{StartsWith};
-ghost use Rattle.program_jobs.specs.Jobs.{EndsConfig, EndsReplay, IsConfigOf, LacksConfig, LeavesReplay, TellsLine, bad_line};
+ghost use Rattle.program_jobs.specs.Jobs.{EndsConfig, EndsReplay, IsConfigOf, LacksConfig, LeavesReplay, WritesLine, bad_line};
 ghost use Rattle.program_jobs.specs.private.Stopping.{MemoryOrStop};
 
 use crate::ending::{
-    BAD_JSON, MISTAKE, end_by, end_by_memory, show, tell, tell_output, with_cause,
+    BAD_JSON, MISTAKE, end_by, end_by_memory, show, with_cause, write_error, write_output_fault,
 };
 use crate::files::Source;
 use crate::job_fault::JobFault;
@@ -93,17 +93,17 @@ pub(crate) fn end_replay<E: Write>(alloc: Global, fault: ReplayFault, errors: &m
     match fault {
         ReplayFault::Line(number, cause) => end_by_line(alloc, number, cause.as_str(), errors),
         ReplayFault::Input(cause) => end_by_input(alloc, cause, errors),
-        ReplayFault::Output(cause) => tell_output(cause, errors),
+        ReplayFault::Output(cause) => write_output_fault(cause, errors),
         ReplayFault::Memory => Outcome::Memory.status(),
     }
 }
 
 /// Ends the replay at a line that is no event.
 fn end_by_line<E: Write>(alloc: Global, number: u64, cause: &str, errors: &mut E) -> u8
-    ensures { TellsLine (E.contents errors.old) (E.contents errors.new) result number }
+    ensures { WritesLine (E.contents errors.old) (E.contents errors.new) result number }
 {
     match line_fault_text(alloc, number, cause) {
-        Ok(text) => tell(text.as_bytes(), BAD_JSON, errors),
+        Ok(text) => write_error(text.as_bytes(), BAD_JSON, errors),
         Err(AllocError) => Outcome::Memory.status(),
     }
 }
@@ -120,7 +120,7 @@ fn end_by_input<E: Write>(alloc: Global, cause: io::Error, errors: &mut E) -> u8
     ensures { (result ≡ 5) ⊎ (result ≡ 2) }
 {
     match input_text(alloc, cause) {
-        Ok(text) => tell(text.as_bytes(), MISTAKE, errors),
+        Ok(text) => write_error(text.as_bytes(), MISTAKE, errors),
         Err(AllocError) => Outcome::Memory.status(),
     }
 }

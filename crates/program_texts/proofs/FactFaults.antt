@@ -45,7 +45,7 @@ means_none d (NoFact name) f (ms, is, has, unknown) are =
     let same : object are.names.0 ≡ object ms = sym are.names.1 ∙ is in
     let one : are.names.0 ≡ ms = cc in
     unknown (named_member ms name.now (rw one at are.names.2) has)
-means_none d (NotOfKind fact) f (v, is, none) are = none f (rw is at (are.tells fact))
+means_none d (NotOfKind fact) f (v, is, none) are = none f (rw is at (are.reports fact))
 means_none d (TooLong fact count) f fault are = fault
 
 -- a text above the limit is not within it

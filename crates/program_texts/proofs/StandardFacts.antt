@@ -37,22 +37,22 @@ facts = record {
 }
 
 -- each fact is as its member says
-told : (fact : Fact) → (fact_row fact).1 (get (name_of fact) (object members)) facts
-told Fact.SourceAddress = refl
-told Fact.SourcePort = tt
-told Fact.DestinationAddress = tt
-told Fact.DestinationPort = (refl, lit< tt)
-told Fact.ConnectionMtls = refl
-told Fact.ConnectionId = tt
-told Fact.ConnectionRequestedServerName = tt
-told Fact.ConnectionTlsVersion = tt
-told Fact.ConnectionSubjectPeerCertificate = tt
-told Fact.ConnectionDnsSanPeerCertificate = tt
-told Fact.ConnectionUriSanPeerCertificate = tt
-told Fact.DirectRemoteIp = (codes "13.1.68.3", refl, addresses.dotted)
-told Fact.RemoteIp = tt
-told Fact.DestinationIp = tt
-told Fact.RequestScheme = (None, tt, refl)
+reported : (fact : Fact) → (fact_row fact).1 (get (name_of fact) (object members)) facts
+reported Fact.SourceAddress = refl
+reported Fact.SourcePort = tt
+reported Fact.DestinationAddress = tt
+reported Fact.DestinationPort = (refl, lit< tt)
+reported Fact.ConnectionMtls = refl
+reported Fact.ConnectionId = tt
+reported Fact.ConnectionRequestedServerName = tt
+reported Fact.ConnectionTlsVersion = tt
+reported Fact.ConnectionSubjectPeerCertificate = tt
+reported Fact.ConnectionDnsSanPeerCertificate = tt
+reported Fact.ConnectionUriSanPeerCertificate = tt
+reported Fact.DirectRemoteIp = (codes "13.1.68.3", refl, addresses.dotted)
+reported Fact.RemoteIp = tt
+reported Fact.DestinationIp = tt
+reported Fact.RequestScheme = (None, tt, refl)
 
 -- the object tells these facts
 pub are_facts : AreFacts (object members) facts
@@ -68,5 +68,5 @@ are_facts = record {
       ),
     ),
   );
-  tells = told;
+  reports = reported;
 }

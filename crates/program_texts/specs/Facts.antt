@@ -40,36 +40,36 @@ abbrev pub IsAddress : Data → Ip → Type 0
 IsAddress d ip = (text : List ℕ) × (d ≡ string text) × IsIpText text ip
 
 -- the fact and a value for it are both absent; or both are present, and the value means the fact
-abbrev pub Tells : {A : Type 0} → (Data → A → Type 0) → Option Data → Option A → Type 0
-Tells Means None None = Unit {0}
-Tells Means None (Some a) = ⊥
-Tells Means (Some d) None = ⊥
-Tells Means (Some d) (Some a) = Means d a
+abbrev pub BothOrNone : {A : Type 0} → (Data → A → Type 0) → Option Data → Option A → Type 0
+BothOrNone Means None None = Unit {0}
+BothOrNone Means None (Some a) = ⊥
+BothOrNone Means (Some d) None = ⊥
+BothOrNone Means (Some d) (Some a) = Means d a
 
 -- the value is this scheme; if there is no value, the scheme is `http`
 abbrev pub IsScheme : Option Data → List ℕ → Type 0
-IsScheme d scheme = (named : Option (List ℕ)) × Tells IsText d named × (scheme ≡ unwrap_or named (codes "http"))
+IsScheme d scheme = (named : Option (List ℕ)) × BothOrNone IsText d named × (scheme ≡ unwrap_or named (codes "http"))
 
 -- each fact's name, and what the member of that name, or its absence, means for the facts
 abbrev pub fact_row : Fact → List ℕ × (Option Data → Facts → Type 0)
-fact_row SourceAddress = (codes "source.address", λ d f. Tells IsText d f.source_address)
-fact_row SourcePort = (codes "source.port", λ d f. Tells IsPortNumber d f.source_port)
-fact_row DestinationAddress = (codes "destination.address", λ d f. Tells IsText d f.destination_address)
-fact_row DestinationPort = (codes "destination.port", λ d f. Tells IsPortNumber d f.destination_port)
-fact_row ConnectionMtls = (codes "connection.mtls", λ d f. Tells IsAnswer d f.mtls)
-fact_row ConnectionId = (codes "connection.id", λ d f. Tells IsNumber d f.connection_id)
+fact_row SourceAddress = (codes "source.address", λ d f. BothOrNone IsText d f.source_address)
+fact_row SourcePort = (codes "source.port", λ d f. BothOrNone IsPortNumber d f.source_port)
+fact_row DestinationAddress = (codes "destination.address", λ d f. BothOrNone IsText d f.destination_address)
+fact_row DestinationPort = (codes "destination.port", λ d f. BothOrNone IsPortNumber d f.destination_port)
+fact_row ConnectionMtls = (codes "connection.mtls", λ d f. BothOrNone IsAnswer d f.mtls)
+fact_row ConnectionId = (codes "connection.id", λ d f. BothOrNone IsNumber d f.connection_id)
 fact_row ConnectionRequestedServerName =
-    (codes "connection.requested_server_name", λ d f. Tells IsText d f.requested_server_name)
-fact_row ConnectionTlsVersion = (codes "connection.tls_version", λ d f. Tells IsText d f.tls_version)
+    (codes "connection.requested_server_name", λ d f. BothOrNone IsText d f.requested_server_name)
+fact_row ConnectionTlsVersion = (codes "connection.tls_version", λ d f. BothOrNone IsText d f.tls_version)
 fact_row ConnectionSubjectPeerCertificate =
-    (codes "connection.subject_peer_certificate", λ d f. Tells IsText d f.subject_peer_certificate)
+    (codes "connection.subject_peer_certificate", λ d f. BothOrNone IsText d f.subject_peer_certificate)
 fact_row ConnectionDnsSanPeerCertificate =
-    (codes "connection.dns_san_peer_certificate", λ d f. Tells IsText d f.dns_san_peer_certificate)
+    (codes "connection.dns_san_peer_certificate", λ d f. BothOrNone IsText d f.dns_san_peer_certificate)
 fact_row ConnectionUriSanPeerCertificate =
-    (codes "connection.uri_san_peer_certificate", λ d f. Tells IsText d f.uri_san_peer_certificate)
-fact_row DirectRemoteIp = (codes "direct_remote_ip", λ d f. Tells IsAddress d f.direct_remote_ip)
-fact_row RemoteIp = (codes "remote_ip", λ d f. Tells IsAddress d f.remote_ip)
-fact_row DestinationIp = (codes "destination_ip", λ d f. Tells IsAddress d f.destination_ip)
+    (codes "connection.uri_san_peer_certificate", λ d f. BothOrNone IsText d f.uri_san_peer_certificate)
+fact_row DirectRemoteIp = (codes "direct_remote_ip", λ d f. BothOrNone IsAddress d f.direct_remote_ip)
+fact_row RemoteIp = (codes "remote_ip", λ d f. BothOrNone IsAddress d f.remote_ip)
+fact_row DestinationIp = (codes "destination_ip", λ d f. BothOrNone IsAddress d f.destination_ip)
 fact_row RequestScheme = (codes "request.scheme", λ d f. IsScheme d f.scheme)
 
 -- the name of a fact
@@ -92,15 +92,15 @@ HasFactNames d = (ms : Members) × (d ≡ object ms) × AreNamed ms
 -- the object means these facts: its members have names of facts, and each fact is what the member of its name means
 pub record AreFacts (d : Data) (f : Facts) : Type 0 where
   pub names : HasFactNames d
-  pub tells : (fact : Fact) → (fact_row fact).1 (get (name_of fact) d) f
+  pub reports : (fact : Fact) → (fact_row fact).1 (get (name_of fact) d) f
 
 -- the bytes are the text of a JSON object that means these facts
 abbrev pub IsFactsText : List ℕ → Facts → Type 0
 IsFactsText text f = IsUtf8 text × ((d : Data) × (read text ≡ Some d) × AreFacts d f)
 
 -- the bytes mean no facts, or facts that are outside the limits
-abbrev pub TellsNone : List ℕ → Type 0
-TellsNone text = ((f : Facts) → ¬ IsFactsText text f)
+abbrev pub MeansNoFacts : List ℕ → Type 0
+MeansNoFacts text = ((f : Facts) → ¬ IsFactsText text f)
     ⊎ ((f : Facts) × IsFactsText text f × ¬ FactsInLimits f largest)
 
 -- a member has this name

@@ -2,7 +2,7 @@
 use Rattle.std.specs.Prelude.{◌≡◌, ℕ, List, [], ◌∷◌, Option, unwrap_or}
 use Rattle.serde_json.specs.Data.{Data, Items, no_items, item, Members, no_members, member, object}
 use Rattle.xds_wire.specs.Envelope.{SomeOf}
-use Rattle.program_texts.specs.Facts.{IsNumber, Tells}
+use Rattle.program_texts.specs.Facts.{IsNumber, BothOrNone}
 
 -- the name of each member is one of these
 abbrev pub AreAmong : List (List ℕ) → Members → Type 0
@@ -15,7 +15,7 @@ HasOnly names d = (ms : Members) × (d ≡ object ms) × AreAmong names ms
 
 -- the value is this unsigned integer; if there is no value, the number is `absent`
 abbrev pub IsNumberOr : ℕ → Option Data → ℕ → Type 0
-IsNumberOr absent d n = (named : Option ℕ) × Tells IsNumber d named × (n ≡ unwrap_or named absent)
+IsNumberOr absent d n = (named : Option ℕ) × BothOrNone IsNumber d named × (n ≡ unwrap_or named absent)
 
 -- the values of an array, in order
 abbrev pub values : Items → List Data

@@ -3,7 +3,7 @@ ghost use Rattle.std.specs.Prelude.{◌≡◌, IfErr, IfOk};
 ghost use Rattle.attributes.specs.Conn.{Facts, conn_view};
 ghost use Rattle.attributes.specs.Limits.{FactsInLimits, largest};
 ghost use Rattle.serde_json.specs.View.{view};
-ghost use Rattle.program_texts.specs.Facts.{AreFacts, HasFactFault, IsFactsText, MeansNone, TellsNone};
+ghost use Rattle.program_texts.specs.Facts.{AreFacts, HasFactFault, IsFactsText, MeansNone, MeansNoFacts};
 ghost use Rattle.program_texts.specs.declared.facts.FactsFault.TheVariants.{Bad};
 
 use crate::fact_fault::FactFault;
@@ -85,7 +85,7 @@ pub fn read_facts(alloc: Global, text: &[u8]) -> Result<Conn, FactsFault>
 pub fn read_conn(alloc: Global, text: &[u8]) -> Result<Conn, FactsFault>
     ensures found { IfOk result (λ conn. IsFactsText text.now (conn_view conn)
         × FactsInLimits (conn_view conn) largest) }
-    ensures fault { IfErr result (λ e. e ≡ Bad → TellsNone text.now) }
+    ensures fault { IfErr result (λ e. e ≡ Bad → MeansNoFacts text.now) }
 {
     match within_limits(read_facts(alloc, text)?) {
         Ok(conn) => Ok(conn),

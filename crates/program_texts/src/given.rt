@@ -4,7 +4,7 @@ ghost use Rattle.attributes.specs.Conn.{conn_view, text_view};
 ghost use Rattle.attributes.specs.declared.address.Ip.{Ip};
 ghost use Rattle.serde_json.specs.Find.{get};
 ghost use Rattle.serde_json.specs.View.{members_view, view};
-ghost use Rattle.program_texts.specs.Facts.{AreFacts, AreNamed, HasFactFault, HasFactNames, IsAddress, IsAnswer, IsFactName, IsNumber, IsPortNumber, IsScheme, IsText, Tells, name_of};
+ghost use Rattle.program_texts.specs.Facts.{AreFacts, AreNamed, HasFactFault, HasFactNames, IsAddress, IsAnswer, IsFactName, IsNumber, IsPortNumber, IsScheme, IsText, BothOrNone, name_of};
 ghost use Rattle.program_texts.specs.private.Given.{HasUnknown, given_view};
 ghost use Rattle.program_texts.specs.declared.fact_fault.FactFault.TheVariants.{NotOfKind};
 
@@ -104,9 +104,9 @@ fn is_unknown(name: &str) -> bool
 
 fn text_at<'a>(object: &'a Value, fact: Fact) -> Result<Option<&'a str>, FactFault<'a>>
     ensures found { IfOk result
-        (λ text. Tells IsText (get (name_of fact) (view object.now)) (option_map (λ t. t.now) text)) }
+        (λ text. BothOrNone IsText (get (name_of fact) (view object.now)) (option_map (λ t. t.now) text)) }
     ensures fault { IfErr result (λ e. (e ≡ NotOfKind fact)
-        × ((text : Option (List ℕ)) → ¬ Tells IsText (get (name_of fact) (view object.now)) text)) }
+        × ((text : Option (List ℕ)) → ¬ BothOrNone IsText (get (name_of fact) (view object.now)) text)) }
 {
     let Some(value) = object.get(fact.name()) else {
         return Ok(None);
@@ -118,9 +118,9 @@ fn text_at<'a>(object: &'a Value, fact: Fact) -> Result<Option<&'a str>, FactFau
 }
 
 fn number_at<'a>(object: &'a Value, fact: Fact) -> Result<Option<u64>, FactFault<'a>>
-    ensures found { IfOk result (λ n. Tells IsNumber (get (name_of fact) (view object.now)) n) }
+    ensures found { IfOk result (λ n. BothOrNone IsNumber (get (name_of fact) (view object.now)) n) }
     ensures fault { IfErr result (λ e. (e ≡ NotOfKind fact)
-        × ((n : Option ℕ) → ¬ Tells IsNumber (get (name_of fact) (view object.now)) n)) }
+        × ((n : Option ℕ) → ¬ BothOrNone IsNumber (get (name_of fact) (view object.now)) n)) }
 {
     let Some(value) = object.get(fact.name()) else {
         return Ok(None);
@@ -133,9 +133,9 @@ fn number_at<'a>(object: &'a Value, fact: Fact) -> Result<Option<u64>, FactFault
 
 fn port_at<'a>(object: &'a Value, fact: Fact) -> Result<Option<u16>, FactFault<'a>>
     ensures found { IfOk result
-        (λ port. Tells IsPortNumber (get (name_of fact) (view object.now)) port) }
+        (λ port. BothOrNone IsPortNumber (get (name_of fact) (view object.now)) port) }
     ensures fault { IfErr result (λ e. (e ≡ NotOfKind fact)
-        × ((port : Option ℕ) → ¬ Tells IsPortNumber (get (name_of fact) (view object.now)) port)) }
+        × ((port : Option ℕ) → ¬ BothOrNone IsPortNumber (get (name_of fact) (view object.now)) port)) }
 {
     match number_at(object, fact)? {
         None => Ok(None),
@@ -145,9 +145,9 @@ fn port_at<'a>(object: &'a Value, fact: Fact) -> Result<Option<u16>, FactFault<'
 }
 
 fn answer_at<'a>(object: &'a Value, fact: Fact) -> Result<Option<bool>, FactFault<'a>>
-    ensures found { IfOk result (λ b. Tells IsAnswer (get (name_of fact) (view object.now)) b) }
+    ensures found { IfOk result (λ b. BothOrNone IsAnswer (get (name_of fact) (view object.now)) b) }
     ensures fault { IfErr result (λ e. (e ≡ NotOfKind fact)
-        × ((b : Option Bool) → ¬ Tells IsAnswer (get (name_of fact) (view object.now)) b)) }
+        × ((b : Option Bool) → ¬ BothOrNone IsAnswer (get (name_of fact) (view object.now)) b)) }
 {
     let Some(value) = object.get(fact.name()) else {
         return Ok(None);
@@ -159,9 +159,9 @@ fn answer_at<'a>(object: &'a Value, fact: Fact) -> Result<Option<bool>, FactFaul
 }
 
 fn address_at<'a>(object: &'a Value, fact: Fact) -> Result<Option<Ip>, FactFault<'a>>
-    ensures found { IfOk result (λ ip. Tells IsAddress (get (name_of fact) (view object.now)) ip) }
+    ensures found { IfOk result (λ ip. BothOrNone IsAddress (get (name_of fact) (view object.now)) ip) }
     ensures fault { IfErr result (λ e. (e ≡ NotOfKind fact)
-        × ((ip : Option Ip) → ¬ Tells IsAddress (get (name_of fact) (view object.now)) ip)) }
+        × ((ip : Option Ip) → ¬ BothOrNone IsAddress (get (name_of fact) (view object.now)) ip)) }
 {
     let Some(text) = text_at(object, fact)? else {
         return Ok(None);

@@ -131,7 +131,7 @@ module _ (c : ConfigValue) (past : List Moment) (sent : List ℕ) where
     all_stay (f ∷ fs) (o ∷ filters) not (one, all) = (stays f o (not f) one, all_stay fs filters not all)
 
     module _ (extensions : List ExtensionMessage) (reads : AllZip IsResource x.response.resources extensions)
-        (told : x.reply ≡ ack_of c x.response) (put : IsSentIn sent x.reply) where
+        (reported : x.reply ≡ ack_of c x.response) (put : IsSentIn sent x.reply) where
       not_named : (f : FilterValue) (ys : List ExtensionMessage) → named f.name extensions ≡ ys
           → GivesAs AreRules c.limits f ys None → IsAckFor c f x → ⊥
       not_named f [] is none (answered, some) =
@@ -164,15 +164,15 @@ module _ (c : ConfigValue) (past : List Moment) (sent : List ℕ) where
       )
       all_given (f ∷ fs) (o ∷ old) (Some rules ∷ news) (was, others) (one, more) = (
         inl (last_here (IsAckFor c f) (GaveRules c f rules sent) xs x
-            (told, given f rules (named f.name extensions) refl one, put)),
+            (reported, given f rules (named f.name extensions) refl one, put)),
         all_given fs old news others more,
       )
 
     refused_not : (old : Acknowledged) (e : Refusal) (f : FilterValue) → x.reply ≡ nack_of c old x.response e
         → IsAckFor c f x → ⊥
-    refused_not old e f refused (told, some) =
+    refused_not old e f refused (reported, some) =
         let clash : Some (status_of e) ≡ None =
-        sym (ap (λ (m : RequestMessage). m.error_detail) refused) ∙ ap (λ (m : RequestMessage). m.error_detail) told in
+        sym (ap (λ (m : RequestMessage). m.error_detail) refused) ∙ ap (λ (m : RequestMessage). m.error_detail) reported in
         absurd cc
 
     unchanged : (old : Acknowledged) → x.after ≡ old → AllZip (InForce (xs ++ x ∷ [])) c.filters old.policies
@@ -182,14 +182,14 @@ module _ (c : ConfigValue) (past : List Moment) (sent : List ℕ) where
 
     one_answered : (old : Acknowledged) → AnswersAs AreRules c x.response old x.reply x.after → IsSentIn sent x.reply
         → AllZip (InForce xs) c.filters old.policies → AllZip (InForce (xs ++ x ∷ [])) c.filters x.after.policies
-    one_answered old (ack accepts told) put was =
+    one_answered old (ack accepts reported) put was =
         subst (λ (filters : List (Option Rules)). AllZip (InForce (xs ++ x ∷ [])) c.filters filters)
         (sym accepts.policies)
-        (all_given accepts.extensions accepts.reads told put c.filters old.policies accepts.given was accepts.gives)
-    one_answered old (nack e refuses same told) put was = unchanged old same
-        (all_stay c.filters old.policies (λ f. refused_not old e f told) was)
-    one_answered old (no_memory admitting same told) put was = unchanged old same
-        (all_stay c.filters old.policies (λ f. refused_not old Refusal.Memory f told) was)
+        (all_given accepts.extensions accepts.reads reported put c.filters old.policies accepts.given was accepts.gives)
+    one_answered old (nack e refuses same reported) put was = unchanged old same
+        (all_stay c.filters old.policies (λ f. refused_not old e f reported) was)
+    one_answered old (no_memory admitting same reported) put was = unchanged old same
+        (all_stay c.filters old.policies (λ f. refused_not old Refusal.Memory f reported) was)
 
   all_answered : (todo done : List Exchange) (messages : List (List ℕ)) (old : Acknowledged)
       → AreExchanges c old messages todo → AreSentIn sent todo → AllZip (InForce done) c.filters old.policies

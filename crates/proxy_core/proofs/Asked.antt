@@ -28,17 +28,17 @@ new_connection facts = record { facts = facts; bytes = []; asks = [] }
 opened : (limits : LimitsValue) (k : ℕ) (facts : Facts) (output : OutputValue) (m : Moment) → Opens limits k facts output
     → m.output ≡ output
     → HasFacts (if nat_lt k places && not m.output.http_close then Some (new_connection facts) else None)
-opened limits k facts output m (fits in' sound within is) told = by (nat_lt k places && not m.output.http_close)
+opened limits k facts output m (fits in' sound within is) reported = by (nat_lt k places && not m.output.http_close)
   where
     by : (b : Bool) → HasFacts (if b then Some (new_connection facts) else None)
     by true = sound
     by false = tt
-opened limits k facts output m (unfit in' not is) told = rw (told, is) (by (nat_lt k places))
+opened limits k facts output m (unfit in' not is) reported = rw (reported, is) (by (nat_lt k places))
   where
     by : (b : Bool) → HasFacts (if b && false then Some (new_connection facts) else None)
     by true = tt
     by false = tt
-opened limits k facts output m (nowhere far is) told = rw (le-ltb k places far) tt
+opened limits k facts output m (nowhere far is) reported = rw (le-ltb k places far) tt
 
 facts_then : (event : EventValue) (c : ConfigValue) (past : List Moment) (m : Moment) (k : ℕ) → Happens c past m event
     → HasFacts (connection_in k past) → HasFacts (connection_then m (connection_in k past) event)

@@ -89,13 +89,13 @@ module _ (r : RequestValue) where
       let it = so_far.chain [] true (refl, refl) in (it.0, it.1, sym (append-nil matches) ∙ it.2)
 
 -- what is told of a request
-pub told_verdict : (r : RequestValue) (filters : List (Option AdmittedValue)) (is_allowed : Bool)
+pub reported_verdict : (r : RequestValue) (filters : List (Option AdmittedValue)) (is_allowed : Bool)
     (matches : List (Option ℕ)) → (IsUnready DecidesAsWritten AsksAsWritten filters → ⊥)
     → (verdicts : List VerdictValue) × Chain DecidesAsWritten AsksAsWritten r filters verdicts is_allowed
     × (matches ≡ map (λ v. v.matched) verdicts)
     → Judges DecidesAsWritten AsksAsWritten filters r (if is_allowed then cases.Allow else cases.Deny) matches
-told_verdict r filters is_allowed matches ready (verdicts, chain, told) =
-    decided verdicts is_allowed ready chain refl told
+reported_verdict r filters is_allowed matches ready (verdicts, chain, reported) =
+    decided verdicts is_allowed ready chain refl reported
 
 -- ---- filters that were admitted can decide
 
@@ -163,9 +163,9 @@ module _ (limits : LimitsValue) (r : RequestValue) where
       → AllZip (IsEnforced limits) ps ws → Judges DecidesAsWritten AsksAsWritten ps r case matches
       → Judges DecideByMeaning AskCondition ws r case matches
   judges_stands ps ws case matches all (unready some is none) = unready (unready_stands ps ws all some) is none
-  judges_stands ps ws case matches all (decided verdicts is_allowed ready chain is told) =
+  judges_stands ps ws case matches all (decided verdicts is_allowed ready chain is reported) =
       decided verdicts is_allowed (λ some. ready (ready_stands ps ws all some))
-      (chain_stands ps ws verdicts is_allowed all chain) is told
+      (chain_stands ps ws verdicts is_allowed all chain) is reported
   judges_stands ps ws case matches all (out_of_memory ready asks is none) =
       out_of_memory (λ some. ready (ready_stands ps ws all some)) (asks_stands ps ws all asks) is none
 
@@ -197,10 +197,10 @@ pub replies_push : (a : Accepted) (asks : List Ask) (ask : Ask) (bytes : List �
     → AreEnforced a asks bytes → IsReplyTo DecidesAsWritten AsksAsWritten a ask reply
     → AreEnforced a (asks ++ ask ∷ []) (bytes ++ answer_of reply)
 replies_push a [] ask bytes reply none is = rw none (reply, [], is, sym (append-nil (answer_of reply)), refl)
-replies_push a (x ∷ asks) ask bytes reply (first, more, told, whole, others) is = (
+replies_push a (x ∷ asks) ask bytes reply (first, more, reported, whole, others) is = (
   first,
   more ++ answer_of reply,
-  told,
+  reported,
   ap (λ (b : List ℕ). b ++ answer_of reply) whole ∙ append_assoc (answer_of first) more (answer_of reply),
   replies_push a asks ask more reply others is,
 )

@@ -101,11 +101,11 @@ written_apart = accepts_apart AreRules rules_admissible
 
 one_exactly : (c : ConfigValue) (old : Acknowledged) (x : Exchange)
     → AnswersAs AreRules c x.response old x.reply x.after → IsAnsweredExactly c old x
-one_exactly c old x (ack accepts told) =
-    acknowledged told accepts (λ e refuses. written_apart c x.response old x.after e accepts refuses)
-one_exactly c old x (nack e refuses same told) =
-    refused e told refuses (λ (before, after, accepts). written_apart c x.response before after e accepts refuses) same
-one_exactly c old x (no_memory admitting same told) = out_of_memory told admitting same
+one_exactly c old x (ack accepts reported) =
+    acknowledged reported accepts (λ e refuses. written_apart c x.response old x.after e accepts refuses)
+one_exactly c old x (nack e refuses same reported) =
+    refused e reported refuses (λ (before, after, accepts). written_apart c x.response before after e accepts refuses) same
+one_exactly c old x (no_memory admitting same reported) = out_of_memory reported admitting same
 
 exchanges_exactly : (c : ConfigValue) (old : Acknowledged) (messages : List (List ℕ)) (exchanges : List Exchange)
     → AreExchanges c old messages exchanges → EachOf (IsAnsweredExactly c) old exchanges

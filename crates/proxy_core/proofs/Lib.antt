@@ -1,5 +1,5 @@
 pub mod Places
-pub mod Heard
+pub mod AnsweredAsks
 pub mod Parts
 pub mod Standing
 pub mod Chains

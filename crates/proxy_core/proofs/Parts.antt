@@ -1,6 +1,6 @@
 -- Fronts are taken out of their places, and put into them.
 use Rattle.std.proofs.Common.{◌≡◌, ℕ, zero, suc, ◌<◌, ◌≤◌, Bool, true, false, Option, Some, None, List, [], ◌∷◌, length, get_or, set, refl, sym, ap, ◌∙◌, arith, if◌then◌else◌}
-use Rattle.proxy_core.specs.declared.told.Told.{Told}
+use Rattle.proxy_core.specs.declared.answered_ask.AnsweredAsk.{AnsweredAsk}
 use Rattle.std.specs.Prelude.{is_none, slice_get, Result, Ok, Err, OnErr, IfOk, MatchBool}
 use Rattle.std.specs.declared.alloc.AllocError.{AllocError}
 use Rattle.std.specs.List.{AllByRecursion}
@@ -13,8 +13,8 @@ use Rattle.ads.specs.Answer.{Accepted}
 use Rattle.http_front.specs.Front.{FrontValue, HasNoAsk, fed_front}
 use Rattle.http_front.specs.Heads.{Kept, reading, closed, fed, is_closed}
 use Rattle.proxy_core.specs.Events.{OutputValue, http_output, no_output}
-use Rattle.proxy_core.specs.Step.{ProxyValue, TellsBytes, TakesHttp, front_at, front_in, with_conn}
-use Rattle.proxy_core.proofs.Heard.{tells_takes}
+use Rattle.proxy_core.specs.Step.{ProxyValue, AnswersBytes, TakesHttp, front_at, front_in, with_conn}
+use Rattle.proxy_core.proofs.AnsweredAsks.{answers_takes}
 use Rattle.proxy_core.specs.private.Fronts.{IsOpenFor, KeepsAt}
 
 -- ---- places
@@ -120,28 +120,28 @@ module _ (old mid new : ProxyValue) (k : ℕ) (left : mid ≡ with_conn old k No
     kept (Err e) bytes keeps = tt
 
     pub kept_not : (result : Result Bool AllocError) → OnErr result (next ≡ f) → OnErr result (new ≡ old)
-    kept_not (Ok b) told = tt
+    kept_not (Ok b) answered_asks = tt
     kept_not (Err e) same = kept_back f is (made ∙ ap (λ (x : FrontValue). with_conn mid k (Some x)) same)
 
 -- bytes that complete no ask are heard
-pub kept_told : (a : Accepted) (front : FrontValue) (bytes : List ℕ) → is_closed front.kept ≡ false
-    → HasNoAsk (fed_front front bytes) → TellsBytes a front bytes [] [] (Some (fed_front front bytes))
-kept_told a front bytes open' none = (
+pub kept_reported : (a : Accepted) (front : FrontValue) (bytes : List ℕ) → is_closed front.kept ≡ false
+    → HasNoAsk (fed_front front bytes) → AnswersBytes a front bytes [] [] (Some (fed_front front bytes))
+kept_reported a front bytes open' none = (
   fed_front front bytes,
   (refl, none, refl),
   refl,
   ap (λ (b : Bool). if b then None else Some (fed_front front bytes)) (sym (open_fed front.kept bytes open')),
 )
 
-pub keeps_heard : (old new : ProxyValue) (k : ℕ) (bytes : List ℕ) (out : OutputValue) → KeepsAt old k bytes new
+pub keeps_answered : (old new : ProxyValue) (k : ℕ) (bytes : List ℕ) (out : OutputValue) → KeepsAt old k bytes new
     → out ≡ no_output → TakesHttp (front_at old k) old k bytes out new
-keeps_heard old new k bytes out (front, is, open', none, made) told =
+keeps_answered old new k bytes out (front, is, open', none, made) answered_asks =
     rw is (
       [],
       Some (fed_front front bytes),
-      tells_takes old.client.accepted front bytes [] [] (Some (fed_front front bytes))
-          (kept_told old.client.accepted front bytes open' none),
-      told,
+      answers_takes old.client.accepted front bytes [] [] (Some (fed_front front bytes))
+          (kept_reported old.client.accepted front bytes open' none),
+      answered_asks,
       made,
     )
 
@@ -152,9 +152,9 @@ not_none old mid k f same is none =
     let both : Some f ≡ None = sym is ∙ ap (λ (p : ProxyValue). front_at p k) same ∙ none in absurd cc
 
 -- bytes that were heard from a copy
-pub heard_http : (old mid new : ProxyValue) (k : ℕ) (bytes http : List ℕ) (front : FrontValue)
-    (after : Option FrontValue) (told : List Told) (out : OutputValue) → mid ≡ old → front_at mid k ≡ Some front
-    → TellsBytes mid.client.accepted front bytes told http after → out ≡ http_output http (is_none after)
+pub answered_http : (old mid new : ProxyValue) (k : ℕ) (bytes http : List ℕ) (front : FrontValue)
+    (after : Option FrontValue) (answered_asks : List AnsweredAsk) (out : OutputValue) → mid ≡ old → front_at mid k ≡ Some front
+    → AnswersBytes mid.client.accepted front bytes answered_asks http after → out ≡ http_output http (is_none after)
     → new ≡ with_conn mid k after → TakesHttp (front_at old k) old k bytes out new
-heard_http old mid new k bytes http front after told out same is tells put made =
-    rw (sym same) (rw is (http, after, tells_takes mid.client.accepted front bytes told http after tells, put, made))
+answered_http old mid new k bytes http front after answered_asks out same is reports put made =
+    rw (sym same) (rw is (http, after, answers_takes mid.client.accepted front bytes answered_asks http after reports, put, made))

@@ -14,7 +14,7 @@ use Rattle.http_front.specs.Heads.{Heads, TakesAll, is_closed, reading}
 use Rattle.http_front.specs.declared.ask.Ask.{Ask}
 use Rattle.http_front.proofs.Resuming.{takes_resume}
 use Rattle.proxy_core.specs.Events.{EventValue, ads_up, ads_bytes, ads_lost, http_open, http_bytes, http_closed, OutputValue, no_output, ads_output, http_output}
-use Rattle.proxy_core.specs.Step.{CallsDo, EventCall, answered, no_memory, Hears, OpensAt, in_place, nowhere, opened, unfit, ProxyValue, StepsBy, TakesAds, TakesHttp, events_of, outputs_of, front_at, new_proxy, with_client, with_conn}
+use Rattle.proxy_core.specs.Step.{CallsDo, EventCall, answered, no_memory, CompletesAsks, OpensAt, in_place, nowhere, opened, unfit, ProxyValue, StepsBy, TakesAds, TakesHttp, events_of, outputs_of, front_at, new_proxy, with_client, with_conn}
 use Rattle.proxy_core.specs.Run as run
 use Rattle.proxy_core.specs.Run.{Acknowledged, AreExchanges, Connection, Exchange, Happens, IsHistory, Moment, UpdateStream, acknowledged_after, acknowledged_in, connection_in, connection_more, connection_then, events_in, is_of, outputs_in, places, stream_in, stream_more}
 use Rattle.proxy_core.proofs.Chains.{replies_stand}
@@ -175,7 +175,7 @@ added_bytes None (Some rest) c past old bytes out new k none up known gives = ab
 added_bytes (Some s) None c past old bytes out new k some down known gives = absurd known
 added_bytes (Some s) (Some rest) c past old bytes out new k some up (messages, cut, all, after)
     (replies, is_broken, versions, client, feeds, is, same) =
-    let (fed', told) = subst (λ o. FeedsBy o old.client bytes replies is_broken versions client) up feeds in
+    let (fed', reported) = subst (λ o. FeedsBy o old.client bytes replies is_broken versions client) up feeds in
     let w = walked fed'.messages c old.client.accepted replies versions client.accepted fed'.ends (acknowledged_in c past)
     (subst (λ d. AreAnswered d old.client.accepted fed'.messages replies versions client.accepted fed'.ends) k.config
     fed'.answered) k.accepted in
@@ -190,7 +190,7 @@ added_bytes (Some s) (Some rest) c past old bytes out new k some up (messages, c
     ap (λ (a : Acknowledged). acknowledged_after a w.exchanges) after
     ∙ sym (after_append (acknowledged_in c s.before) s.exchanges w.exchanges) in
     rw (is, same) (subst (λ b. Added c past (ads_bytes bytes) (ads_output replies b) (with_client old client))
-    (sym (told ∙ ap is_none fed'.stream)) (added_more c past old client s (messages ++ w.read) w.others fed'.tail fed'.ends
+    (sym (reported ∙ ap is_none fed'.stream)) (added_more c past old client s (messages ++ w.read) w.others fed'.tail fed'.ends
     w.exchanges bytes replies k some whole both now w.stands w.sent w.left fed'.stream (fed'.config ∙ k.config)))
 
 -- ---- connections
@@ -283,7 +283,7 @@ added_opens c past old k facts out new known (nowhere far is made) = rw (is, mad
 
 -- bytes of a connection
 front_behind : (c : ConfigValue) (s : Connection) (f after : FrontValue) (bytes : List ℕ) (asks : List Ask)
-    → FrontKnown c s f → Hears f bytes asks after
+    → FrontKnown c s f → CompletesAsks f bytes asks after
     → Heads c.limits s.facts (s.bytes ++ bytes) (s.asks ++ asks) (is_closed after.kept)
     × FrontKnown c (connection_more bytes asks s) after
 front_behind c s f after bytes asks known (takes, rests, is) =
@@ -308,7 +308,7 @@ added_http : (s : Option Connection) (f : Option FrontValue) (c : ConfigValue) (
     (k : ℕ) (bytes : List ℕ) (out : OutputValue) (new : ProxyValue) → Known c past old
     → connection_in k past ≡ s → front_at old k ≡ f → ConnectionKnown c s f
     → TakesHttp f old k bytes out new → Added c past (http_bytes k bytes) out new
-added_http None None c past old k bytes out new known none shut is (told, same) = rw (told, same) (record {
+added_http None None c past old k bytes out new known none shut is (reported, same) = rw (reported, same) (record {
   exchanges = [];
   asks = [];
   happens = rw none (refl, refl, refl);
@@ -324,13 +324,13 @@ added_http None None c past old k bytes out new known none shut is (told, same) 
 added_http None (Some f) c past old k bytes out new known none up is gives = absurd is
 added_http (Some s) None c past old k bytes out new known some shut is gives = absurd is
 added_http (Some s) (Some f) c past old k bytes out new known some up is
-    (http, left, (asks, after, hears, answers, which), told, made) =
-    let (whole, front) = front_behind c s f after bytes asks is hears in
+    (http, left, (asks, after, completes, answers, which), reported, made) =
+    let (whole, front) = front_behind c s f after bytes asks is completes in
     let conn : Option FrontValue = if is_closed after.kept then None else Some after in
-    let told' : out ≡ http_output http (is_closed after.kept) =
-    told ∙ ap (λ (o : Option FrontValue). http_output http (is_none o)) which
+    let reported' : out ≡ http_output http (is_closed after.kept) =
+    reported ∙ ap (λ (o : Option FrontValue). http_output http (is_none o)) which
     ∙ ap (http_output http) (none_if (is_closed after.kept) after) in
-    rw (told', made ∙ ap (with_conn old k) which) (record {
+    rw (reported', made ∙ ap (with_conn old k) which) (record {
       exchanges = [];
       asks = asks;
       happens = rw some (
@@ -351,14 +351,14 @@ added_http (Some s) (Some f) c past old k bytes out new known some up is
 
 added : (event : EventValue) (c : ConfigValue) (past : List Moment) (old : ProxyValue) (out : OutputValue)
     (new : ProxyValue) → Known c past old → StepsBy old event out new → Added c past event out new
-added ads_up c past old out new known (bytes, frame, told, made) = rw (told, made) (added_up c past old bytes known frame)
+added ads_up c past old out new known (bytes, frame, reported, made) = rw (reported, made) (added_up c past old bytes known frame)
 added (ads_bytes bytes) c past old out new known gives =
     added_bytes (stream_in past) old.client.stream c past old bytes out new known refl refl known.stream gives
-added ads_lost c past old out new known (told, made) = rw (told, made) (added_lost c past old known)
+added ads_lost c past old out new known (reported, made) = rw (reported, made) (added_lost c past old known)
 added (http_open k facts) c past old out new known opens = added_opens c past old k facts out new known opens
 added (http_bytes k bytes) c past old out new known gives =
     added_http (connection_in k past) (front_at old k) c past old k bytes out new known refl refl (known.conns k) gives
-added (http_closed k) c past old out new known (told, made) = rw (told, made) (added_closed c past old k known)
+added (http_closed k) c past old out new known (reported, made) = rw (reported, made) (added_closed c past old k known)
 
 -- the history of calls
 pub record Followed (c : ConfigValue) (past : List Moment) (calls : List EventCall) : Type 0 where

@@ -120,10 +120,10 @@ module _ (limits : LimitsValue) where
 
 answer_well : (c : ConfigValue) (old : Acknowledged) (x : Exchange) → AnswersAs AreRules c x.response old x.reply x.after
     → AllByRecursion (RunWell c.limits) old.policies → AllByRecursion (RunWell c.limits) x.after.policies
-answer_well c old x (ack accepts told) well =
+answer_well c old x (ack accepts reported) well =
     rw accepts.policies (replaced_well c.limits accepts.extensions c.filters old.policies accepts.given well accepts.gives)
-answer_well c old x (nack e refuses same told) well = rw same well
-answer_well c old x (no_memory admitting same told) well = rw same well
+answer_well c old x (nack e refuses same reported) well = rw same well
+answer_well c old x (no_memory admitting same reported) well = rw same well
 
 exchanges_well : (c : ConfigValue) (exchanges : List Exchange) (messages : List (List ℕ)) (old : Acknowledged)
     → AreExchanges c old messages exchanges → AllByRecursion (RunWell c.limits) old.policies

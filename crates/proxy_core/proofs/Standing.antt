@@ -81,7 +81,7 @@ refusal c response e version = request_of c version None response.nonce (Some (s
 
 pub answer_stands : (c : ConfigValue) (response : ResponseMessage) (old new : Accepted) (reply : RequestMessage)
     (w : Acknowledged) → Answers c response old reply new → StandsFor c.limits old w → Answered c response new reply w
-answer_stands c response old new reply w (ack accepts told) s =
+answer_stands c response old new reply w (ack accepts reported) s =
     let given = all_give c.limits accepts.extensions c.filters accepts.given accepts.gives in
     let after : Acknowledged = record {
       version = response.version_info;
@@ -98,7 +98,7 @@ answer_stands c response old new reply w (ack accepts told) s =
         policies = refl;
         version = refl;
         generation = refl;
-      }) told;
+      }) reported;
       stands = record {
         version = accepts.version;
         generation = accepts.generation ∙ ap (λ (n : ℕ). min (n + 1) (2 ^ 64 - 1)) s.generation;
@@ -106,13 +106,13 @@ answer_stands c response old new reply w (ack accepts told) s =
             (replaced_stands c.limits old.policies accepts.given w.policies given.0 s.policies given.2);
       };
     }
-answer_stands c response old new reply w (nack e refuses same told) s = record {
+answer_stands c response old new reply w (nack e refuses same reported) s = record {
   after = w;
-  answers = AnswersAs.nack e refuses refl (told ∙ ap (refusal c response e) s.version);
+  answers = AnswersAs.nack e refuses refl (reported ∙ ap (refusal c response e) s.version);
   stands = rw same s;
 }
-answer_stands c response old new reply w (no_memory admitting same told) s = record {
+answer_stands c response old new reply w (no_memory admitting same reported) s = record {
   after = w;
-  answers = AnswersAs.no_memory admitting refl (told ∙ ap (refusal c response Refusal.Memory) s.version);
+  answers = AnswersAs.no_memory admitting refl (reported ∙ ap (refusal c response Refusal.Memory) s.version);
   stands = rw same s;
 }

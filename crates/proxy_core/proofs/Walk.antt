@@ -70,7 +70,7 @@ walked (m ∷ messages) c old replies versions new ends w (inl ((e, fault), none
   left = one_faulty m messages e refl fault stops;
 }
 walked (m ∷ messages) c old replies versions new ends w
-    (inr (response, reply, next, more, later, reads, answers, frame, told, all)) s =
+    (inr (response, reply, next, more, later, reads, answers, frame, reported, all)) s =
     let one = answer_stands c response old next reply w answers s in
     let rest = walked messages c next more later new ends one.after all one.stands in record {
       read = m ∷ rest.read;

@@ -12,7 +12,7 @@ use Rattle.ads.specs.Config.{ConfigValue}
 use Rattle.ads.specs.Answer.{Accepted, AdmittedValue, first_request}
 use Rattle.ads.specs.Client.{ClientValue, Feeds, IsFrameThen, new_client, stream_down, stream_up}
 use Rattle.http_front.specs.Answer.{answer_of, reply_view}
-use Rattle.proxy_core.specs.declared.told.Told.{Told}
+use Rattle.proxy_core.specs.declared.answered_ask.AnsweredAsk.{AnsweredAsk}
 use Rattle.http_front.specs.Front.{FrontValue, HasNoAsk, fed_front, keeping, new_front}
 use Rattle.http_front.specs.Heads.{TakesAll, is_closed}
 use Rattle.http_front.specs.declared.ask.Ask.{Ask}
@@ -93,27 +93,27 @@ pub data OpensAt (old : ProxyValue) (k : ℕ) (facts : Facts) (out : OutputValue
   nowhere : length old.conns ≤ k → out ≡ no_output → new ≡ old → OpensAt old k facts out new
 
 -- the front after the bytes: all asks that they complete were taken
-abbrev pub Hears : FrontValue → List ℕ → List Ask → FrontValue → Type 0
-Hears front bytes asks after = TakesAll front.limits front.facts (fed_front front bytes).kept asks after.kept
+abbrev pub CompletesAsks : FrontValue → List ℕ → List Ask → FrontValue → Type 0
+CompletesAsks front bytes asks after = TakesAll front.limits front.facts (fed_front front bytes).kept asks after.kept
     × HasNoAsk after × (after ≡ keeping front after.kept)
 
 -- each answer is one to its ask, and the bytes are the answers, in order
-abbrev pub AreTold : Accepted → List Told → List ℕ → Type 0
-AreTold accepted [] bytes = bytes ≡ []
-AreTold accepted (t ∷ told) bytes = (more : List ℕ)
+abbrev pub AnswersAsks : Accepted → List AnsweredAsk → List ℕ → Type 0
+AnswersAsks accepted [] bytes = bytes ≡ []
+AnswersAsks accepted (t ∷ answered_asks) bytes = (more : List ℕ)
     × IsReplyTo DecidesAsWritten AsksAsWritten accepted t.ask (reply_view t.reply)
-    × (bytes ≡ answer_of (reply_view t.reply) ++ more) × AreTold accepted told more
+    × (bytes ≡ answer_of (reply_view t.reply) ++ more) × AnswersAsks accepted answered_asks more
 
 -- a front reads bytes: the asks that they complete with their answers, these as bytes, and the front after them; none if
 -- the connection closes behind the answers
-abbrev pub TellsBytes : Accepted → FrontValue → List ℕ → List Told → List ℕ → Option FrontValue → Type 0
-TellsBytes accepted front bytes told http after = (last : FrontValue) × Hears front bytes (map (λ t. t.ask) told) last
-    × AreTold accepted told http × (after ≡ (if is_closed last.kept then None else Some last))
+abbrev pub AnswersBytes : Accepted → FrontValue → List ℕ → List AnsweredAsk → List ℕ → Option FrontValue → Type 0
+AnswersBytes accepted front bytes answered_asks http after = (last : FrontValue) × CompletesAsks front bytes (map (λ t. t.ask) answered_asks) last
+    × AnswersAsks accepted answered_asks http × (after ≡ (if is_closed last.kept then None else Some last))
 
 -- the same, whatever was told
 abbrev pub TakesBytes : Accepted → FrontValue → List ℕ → List ℕ → Option FrontValue → Type 0
 TakesBytes accepted front bytes http after =
-    (asks : List Ask) × (last : FrontValue) × Hears front bytes asks last
+    (asks : List Ask) × (last : FrontValue) × CompletesAsks front bytes asks last
     × AreEnforced accepted asks http × (after ≡ (if is_closed last.kept then None else Some last))
 
 -- bytes of a connection arrive: the front in its place reads them; if there is none, they are dropped

@@ -5,11 +5,11 @@ ghost use Rattle.attributes.specs.Conn.{conn_view};
 ghost use Rattle.attributes.specs.Limits.{FactsInLimits};
 ghost use Rattle.ads.specs.Ends.{client_view};
 ghost use Rattle.http_front.specs.Heads.{reading};
-ghost use Rattle.proxy_core.specs.Step.{OpensFront, TellsBytes};
+ghost use Rattle.proxy_core.specs.Step.{OpensFront, AnswersBytes};
 
-use crate::hearing::{opened, taken};
+use crate::answered_ask::AnsweredAsk;
+use crate::answering::{opened, taken};
 use crate::step::kept_by;
-use crate::told::Told;
 use ads::Client;
 use attributes::Conn;
 use http_front::Front;
@@ -58,21 +58,21 @@ impl Session {
         alloc: Global,
         client: &Client,
         bytes: &[u8],
-    ) -> Result<(Vec<u8>, Option<Session>, Vec<Told>), AllocError>
+    ) -> Result<(Vec<u8>, Option<Session>, Vec<AnsweredAsk>), AllocError>
         requires { self.limits ≡ (client_view client.now).config.limits }
         ensures limits { IfOk result (λ r. IfSome r.1 (λ s. s.limits ≡ (client_view client.now).config.limits)) }
-        ensures found { IfOk result (λ r. TellsBytes (client_view client.now).accepted self bytes.now
+        ensures found { IfOk result (λ r. AnswersBytes (client_view client.now).accepted self bytes.now
             r.2.items r.0.items r.1) }
     {
         let Session { mut front } = self;
         if kept_by(&mut front, bytes)? {
             return Ok((Vec::new(alloc), Some(Session { front }), Vec::new(alloc)));
         }
-        let (answers, front, told) = taken(alloc, client, front, bytes)?;
+        let (answers, front, answered_asks) = taken(alloc, client, front, bytes)?;
         let Some(front) = front else {
-            return Ok((answers, None, told));
+            return Ok((answers, None, answered_asks));
         };
-        Ok((answers, Some(Session { front }), told))
+        Ok((answers, Some(Session { front }), answered_asks))
     }
 
     /// Whether it is as a new one with its facts is: each byte so far belongs to a request that was answered.

@@ -3,15 +3,15 @@
 ghost use Rattle.std.specs.Prelude.{◌≡◌, ◌<◌, [], None, Some, false, true, IfOk, IfSome, IsOk, OnErr, MatchBool, MatchOption};
 ghost use Rattle.attributes.specs.Conn.{conn_view};
 ghost use Rattle.ads.specs.Ends.{client_view};
-ghost use Rattle.ads.specs.Judgements.{TellsBy};
+ghost use Rattle.ads.specs.Judgements.{ReportsJudgementsBy};
 ghost use Rattle.http_front.specs.Front.{HasNoAsk, fed_front};
 ghost use Rattle.proxy_core.specs.Events.{ads_bytes, ads_output, ads_up, event_view, http_bytes, http_open, http_output, no_output, output_view};
 ghost use Rattle.proxy_core.specs.Proxies.{proxy_view};
 ghost use Rattle.proxy_core.specs.Step.{OpensAt, StepsBy, TakesAds, TakesHttp, TakesNoMemory, front_at, new_proxy, with_conn};
 ghost use Rattle.proxy_core.specs.private.Fronts.{IsOpenFor, KeepsAt};
 
+use crate::answering::{opened, taken};
 use crate::event::{Event, Output};
-use crate::hearing::{opened, taken};
 use crate::proxy::Proxy;
 use ads::{Client, Config, Ended, Judgement};
 use attributes::Conn;
@@ -107,14 +107,14 @@ impl Proxy {
     /// Takes the event that the update stream delivers bytes, as `step` does. Also returns the judgements of the
     /// responses that the bytes complete, for a log: one for each request in the output, in the same order. The last
     /// part of the result says why no stream is up afterwards; None if one is.
-    pub fn hear_updates(
+    pub fn receive_updates(
         &mut self,
         bytes: &[u8],
     ) -> Result<(Output, Vec<Judgement>, Option<Ended>), AllocError>
         ensures found { IfOk result (λ r.
             StepsBy (proxy_view self.old) (ads_bytes bytes.now) (output_view r.0) (proxy_view self.new)) }
         ensures judged { IfOk result (λ r. let client = (proxy_view self.old).client in
-            TellsBy client.stream client bytes.now r.0.ads.items r.1.items r.2 (proxy_view self.new).client) }
+            ReportsJudgementsBy client.stream client bytes.now r.0.ads.items r.1.items r.2 (proxy_view self.new).client) }
         ensures fault { OnErr result (proxy_view self.new ≡ proxy_view self.old) }
         ensures sure { TakesNoMemory (proxy_view self.old) (ads_bytes bytes.now) → IsOk result }
     {
@@ -147,7 +147,7 @@ impl Proxy {
         ensures fault { OnErr result (proxy_view self.new ≡ proxy_view self.old) }
         ensures sure { TakesNoMemory (proxy_view self.old) (ads_bytes bytes.now) → IsOk result }
     {
-        match self.hear_updates(bytes) {
+        match self.receive_updates(bytes) {
             Ok((output, _, _)) => Ok(output),
             Err(AllocError) => Err(AllocError),
         }

@@ -14,7 +14,7 @@ use Rattle.serde_json.specs.View.{items_of, items_view, view}
 use Rattle.serde_json.specs.declared.value.Value.{Value}
 use Rattle.xds_wire.specs.Envelope.{SomeOf}
 use Rattle.proxy_replay.specs.Configuration.{AreDeclared, DeclaresLimits, IsConfig, IsFilterObject, limit_names}
-use Rattle.program_texts.specs.Facts.{IsNumber, Tells}
+use Rattle.program_texts.specs.Facts.{IsNumber, BothOrNone}
 use Rattle.program_texts.specs.Members.{HasOnly, IsNumberOr, values}
 
 -- what holds of one fails where it fails of each
@@ -43,18 +43,18 @@ at_fault c e fault sound = elim fault [
 ]
 
 -- a member tells one number
-tells_one : (d : Option Data) (m n : Option ℕ) → Tells IsNumber d m → Tells IsNumber d n → m ≡ n
-tells_one None None None a b = refl
-tells_one None None (Some n) a b = absurd b
-tells_one None (Some m) n a b = absurd a
-tells_one (Some d) None n a b = absurd a
-tells_one (Some d) (Some m) None a b = absurd b
-tells_one (Some d) (Some m) (Some n) a b = cc
+both_unique : (d : Option Data) (m n : Option ℕ) → BothOrNone IsNumber d m → BothOrNone IsNumber d n → m ≡ n
+both_unique None None None a b = refl
+both_unique None None (Some n) a b = absurd b
+both_unique None (Some m) n a b = absurd a
+both_unique (Some d) None n a b = absurd a
+both_unique (Some d) (Some m) None a b = absurd b
+both_unique (Some d) (Some m) (Some n) a b = cc
 
 -- and means one
 pub number_one : (absent : ℕ) (d : Option Data) (m n : ℕ) → IsNumberOr absent d m → IsNumberOr absent d n → m ≡ n
 number_one absent d m n a b =
-    let same : a.0 ≡ b.0 = tells_one d a.0 b.0 a.1 b.1 in
+    let same : a.0 ≡ b.0 = both_unique d a.0 b.0 a.1 b.1 in
     let first = a.2 in let second = b.2 in cc
 
 -- an object is one filter
@@ -114,11 +114,11 @@ module _ (d : Data) (fields name value method target text : ℕ)
   -- where these are no limits, none are declared
   pub declares_none : (AreLimits (declared fields name value method target text) → ⊥) → (l : LimitsValue)
       → DeclaresLimits d l → ⊥
-  declares_none not l told =
+  declares_none not l reported =
       let same : declared fields name value method target text ≡ l =
       limits_same (declared fields name value method target text) l
-      (λ limit. number_one _ _ _ _ (each_read limit) (told.each limit)) in
-      not (rw same told.sound)
+      (λ limit. number_one _ _ _ _ (each_read limit) (reported.each limit)) in
+      not (rw same reported.sound)
 
 -- the values of a list
 listed : (ds : List Data) → values (items_of ds) ≡ ds
@@ -149,13 +149,13 @@ pub parts_sound : (d : Data) (node cluster : List ℕ) (items : Items) (fs : Lis
     → get (codes "filters") d ≡ Some (array items) → AllZip IsFilterObject (values items) fs
     → AreDeclared (get (codes "limits") d) l → (c : ConfigValue) → IsConfig d c
     → IsSound (record { node = node; cluster = cluster; filters = fs; limits = l })
-parts_sound d node cluster items fs l is_node is_cluster is_items are_filters are_limits c told =
-    let e1 : node ≡ c.node = (let other = told.node in cc) in
-    let e2 : cluster ≡ c.cluster = (let other = told.cluster in cc) in
-    let same : told.items ≡ items = (let other = told.listed in cc) in
-    let e3 : fs ≡ c.filters = filters_one (values items) fs c.filters are_filters (rw same at told.filters) in
-    let e4 : l ≡ c.limits = limits_one _ l c.limits are_limits told.limits in
-    rw (e1, e2, e3, e4) told.sound
+parts_sound d node cluster items fs l is_node is_cluster is_items are_filters are_limits c reported =
+    let e1 : node ≡ c.node = (let other = reported.node in cc) in
+    let e2 : cluster ≡ c.cluster = (let other = reported.cluster in cc) in
+    let same : reported.items ≡ items = (let other = reported.listed in cc) in
+    let e3 : fs ≡ c.filters = filters_one (values items) fs c.filters are_filters (rw same at reported.filters) in
+    let e4 : l ≡ c.limits = limits_one _ l c.limits are_limits reported.limits in
+    rw (e1, e2, e3, e4) reported.sound
 
 -- what a failing step says
 pub on_err_by : {T E : Type 0} {P Q : Type 0} (r : Result T E) → (P → Q) → OnErr r P → OnErr r Q

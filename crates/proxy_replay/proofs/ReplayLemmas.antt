@@ -36,14 +36,14 @@ then_more (Some event) calls rest more (call, of, is) = (call, of, ap (λ l. l +
 -- the call of one line, whose event is seen
 pub seen_one : (only : Option ℕ) (line : List ℕ) (event seen : EventValue) (call : EventCall) → IsLineText line event
     → seen_by only event ≡ Some seen → event_of call ≡ seen → AreCallsOf only (line ∷ []) (call ∷ [])
-seen_one only line event seen call told is of = (event, told, ([], rw is (call, of, refl), refl))
+seen_one only line event seen call reported is of = (event, reported, ([], rw is (call, of, refl), refl))
 
 -- the calls of one line more
-told_more : (only : Option ℕ) (lines : List (List ℕ)) (calls : List EventCall) (line : List ℕ) (more : List EventCall)
+reported_more : (only : Option ℕ) (lines : List (List ℕ)) (calls : List EventCall) (line : List ℕ) (more : List EventCall)
     → AreCallsOf only lines calls → AreCallsOf only (line ∷ []) more → AreCallsOf only (lines ++ line ∷ []) (calls ++ more)
-told_more only [] calls line more none here = rw none here
-told_more only (first ∷ lines) calls line more (event, is, (rest, calls_are, are)) here =
-    (event, is, (rest ++ more, then_more (seen_by only event) calls rest more calls_are, told_more only lines rest line more are here))
+reported_more only [] calls line more none here = rw none here
+reported_more only (first ∷ lines) calls line more (event, is, (rest, calls_are, are)) here =
+    (event, is, (rest ++ more, then_more (seen_by only event) calls rest more calls_are, reported_more only lines rest line more are here))
 
 module _ (config : ConfigValue) (only : Option ℕ) (input out : Option (List ℕ)) where
   pub replayed_more : (lines : List (List ℕ)) (calls : List EventCall) (old new : ProxyValue)
@@ -51,9 +51,9 @@ module _ (config : ConfigValue) (only : Option ℕ) (input out : Option (List �
       → Replayed config only input out lines calls old now out_now → ReadsLine now line next
       → AreCallsOf only (line ∷ []) more → CallsDo old more new → Appends out_now out_next (printed_of more)
       → Replayed config only input out (lines ++ line ∷ []) (calls ++ more) new next out_next
-  replayed_more lines calls old new now next out_now out_next line more so_far reads told does prints = record {
+  replayed_more lines calls old new now next out_now out_next line more so_far reads reported does prints = record {
     replays = record {
-      told = told_more only lines calls line more so_far.replays.told told;
+      reported = reported_more only lines calls line more so_far.replays.reported reported;
       done = calls_then _ old new calls more so_far.replays.done does;
     };
     read = read_more input now next lines line so_far.read reads;
@@ -63,7 +63,7 @@ module _ (config : ConfigValue) (only : Option ℕ) (input out : Option (List �
   -- before the first line
   pub replayed_none : (first : ProxyValue) → first ≡ new_proxy config → Replayed config only input out [] [] first input out
   replayed_none first is = record {
-    replays = record { told = refl; done = is };
+    replays = record { reported = refl; done = is };
     read = at_first input;
     printed = Appends-nil out;
   }

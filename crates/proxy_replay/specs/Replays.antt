@@ -47,7 +47,7 @@ AreCallsOf only (line ∷ lines) calls = (event : EventValue) × IsLineText line
 -- a proxy of this configuration takes the events of the lines that are seen, in order; `after` is the proxy at the end
 pub record Replays (config : ConfigValue) (only : Option ℕ) (lines : List (List ℕ)) (calls : List EventCall)
     (after : ProxyValue) : Type 0 where
-  pub told : AreCallsOf only lines calls
+  pub reported : AreCallsOf only lines calls
   pub done : CallsDo (new_proxy config) calls after
 
 -- the output took a proper beginning of the answer of a proxy to the line's event, and then failed
@@ -55,7 +55,7 @@ pub record BreaksAnswer (only : Option ℕ) (old : ProxyValue) (line : List ℕ)
   where
     pub calls : List EventCall
     pub new : ProxyValue
-    pub told : AreCallsOf only (line ∷ []) calls
+    pub reported : AreCallsOf only (line ∷ []) calls
     pub done : CallsDo old calls new
     pub broken : BreaksOff out out_new (printed_of calls)
 

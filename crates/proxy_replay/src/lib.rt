@@ -3,9 +3,9 @@
 
 mod configuration;
 mod lines;
+mod meaning_text;
 pub mod replay;
-mod telling;
 
 pub use configuration::{ConfigTextFault, config_at, read_config};
 pub use lines::{LineEvent, line_event, line_text};
-pub use telling::{cause_of_bad_config, cause_of_bad_settings, config_text};
+pub use meaning_text::{cause_of_bad_config, cause_of_bad_settings, config_text};

@@ -1,12 +1,12 @@
 //! The connections of front proxies. Each of their requests is a connection of its own to the worker.
 
-use crate::observed::Observed;
-use crate::rule::{Rule, unjudged_head};
+use crate::observed::ObservedWorker;
+use crate::rule::{MappingRule, unjudged_head};
 use attributes::{Conn, Limits, Request};
 use head_map::{Parts, head_of};
 use host_logs::Connection;
 use http_front::{Ask, Front, HeadFault, Reply};
-use rbac_serve::{Heard, Outbox, Sent};
+use rbac_serve::{ConnectionResult, Outbox, Sent};
 use serve_log::LogFiles;
 use std::alloc::{AllocError, Global};
 use std::io::Write;
@@ -62,12 +62,12 @@ impl FrontConnection {
     }
 
     /// It delivers bytes. The answers to the requests that they complete are put after those that wait.
-    pub(crate) fn hear<R: Clock, F: LogFiles + Drop>(
+    pub(crate) fn receive<R: Clock, F: LogFiles + Drop>(
         &mut self,
-        observed: &mut Observed<'_, R, F>,
-        rule: Rule<'_>,
+        observed: &mut ObservedWorker<'_, R, F>,
+        rule: MappingRule<'_>,
         bytes: &[u8],
-    ) -> Result<Heard, AllocError> {
+    ) -> Result<ConnectionResult, AllocError> {
         let mut answers = false;
         if !self.front.keeps(bytes)? {
             self.front.feed(bytes)?;
@@ -80,7 +80,7 @@ impl FrontConnection {
                 self.answer(observed, rule, ask, lines)?;
             }
         }
-        Ok(Heard {
+        Ok(ConnectionResult {
             rests: self.front.is_fresh(),
             answers,
             closes: self.front.is_closed(),
@@ -90,8 +90,8 @@ impl FrontConnection {
     // Puts the answer to an ask that has these lines.
     fn answer<R: Clock, F: LogFiles + Drop>(
         &mut self,
-        observed: &mut Observed<'_, R, F>,
-        rule: Rule<'_>,
+        observed: &mut ObservedWorker<'_, R, F>,
+        rule: MappingRule<'_>,
         ask: Ask,
         lines: Option<Lines>,
     ) -> Result<(), AllocError> {
@@ -115,7 +115,7 @@ impl FrontConnection {
     // The reply to a head with a fault, which closes the connection.
     fn refuse_head<R: Clock, F: LogFiles + Drop>(
         &mut self,
-        observed: &mut Observed<'_, R, F>,
+        observed: &mut ObservedWorker<'_, R, F>,
         fault: HeadFault,
     ) -> (Reply, Framing) {
         let reply = observed.refuse(&self.own, &unjudged_head(fault));
@@ -129,8 +129,8 @@ impl FrontConnection {
     // The reply to a request with these lines.
     fn judge<R: Clock, F: LogFiles + Drop>(
         &mut self,
-        observed: &mut Observed<'_, R, F>,
-        rule: Rule<'_>,
+        observed: &mut ObservedWorker<'_, R, F>,
+        rule: MappingRule<'_>,
         request: &Request,
         lines: Lines,
     ) -> Result<Reply, AllocError> {

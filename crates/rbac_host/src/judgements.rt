@@ -1,7 +1,7 @@
 //! What is counted, logged and recorded of a judgement.
 
-use crate::observed::Observed;
-use ads::{Judgement, Outcome, Refused};
+use crate::observed::ObservedWorker;
+use ads::{Judgement, Refused, ResponseOutcome};
 use host_logs::{Refusing, accepted_update, places_of, unix_millis};
 use rbac_policy::Admitted;
 use rbac_serve::{Judged, judged};
@@ -19,7 +19,7 @@ struct Times {
     ended: u64,
 }
 
-impl<R: Clock, F: LogFiles + Drop> Observed<'_, R, F> {
+impl<R: Clock, F: LogFiles + Drop> ObservedWorker<'_, R, F> {
     /// A response is complete with these bytes and was judged, in so many microseconds.
     pub(crate) fn note_judgement(&mut self, bytes: &[u8], judgement: &Judgement, micros: u64) {
         let times = Times {
@@ -34,16 +34,16 @@ impl<R: Clock, F: LogFiles + Drop> Observed<'_, R, F> {
     }
 
     // Records the bytes that complete a response.
-    fn record(&mut self, bytes: &[u8], outcome: &Outcome) {
+    fn record(&mut self, bytes: &[u8], outcome: &ResponseOutcome) {
         let Some(recorder) = &mut self.logs.recorder else {
             return;
         };
         match outcome {
-            Outcome::Accepted(given) => match places_of(self.alloc, given) {
+            ResponseOutcome::Accepted(given) => match places_of(self.alloc, given) {
                 Ok(places) => recorder.fed(bytes, &Fed::Accepted(&places)),
                 Err(AllocError) => recorder.fed(bytes, &Fed::Accepted(&[])),
             },
-            Outcome::Refused(_) => recorder.fed(bytes, &Fed::Refused),
+            ResponseOutcome::Refused(_) => recorder.fed(bytes, &Fed::Refused),
         }
     }
 
@@ -54,8 +54,8 @@ impl<R: Clock, F: LogFiles + Drop> Observed<'_, R, F> {
             .metrics
             .admission(version, times.ended, times.micros)?;
         match &judgement.outcome {
-            Outcome::Accepted(given) => self.note_accepted(judgement, given, times),
-            Outcome::Refused(refused) => self.note_refused(judgement, refused, times),
+            ResponseOutcome::Accepted(given) => self.note_accepted(judgement, given, times),
+            ResponseOutcome::Refused(refused) => self.note_refused(judgement, refused, times),
         }
     }
 

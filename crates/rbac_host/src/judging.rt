@@ -1,17 +1,17 @@
 //! The requests of the clients of a front proxy: judged, counted, logged and recorded.
 
-use crate::observed::Observed;
+use crate::observed::ObservedWorker;
 use attributes::Conn;
 use host_logs::{Connection, Unjudged, unix_millis};
 use http_front::{Ask, Case, HeadFault, Reply};
-use proxy_core::Told;
+use proxy_core::AnsweredAsk;
 use rbac_serve::Answered;
 use serve_admin::Verdict;
 use serve_log::LogFiles;
 use std::alloc::{AllocError, Global};
 use std::rt::Clock;
 
-impl<R: Clock, F: LogFiles + Drop> Observed<'_, R, F> {
+impl<R: Clock, F: LogFiles + Drop> ObservedWorker<'_, R, F> {
     /// Judges the request of a client, which is a connection of its own in a place, with these facts and this head. After
     /// an error the connection is still to be ended.
     pub(crate) fn judge(
@@ -25,12 +25,12 @@ impl<R: Clock, F: LogFiles + Drop> Observed<'_, R, F> {
         if let Some(recorder) = &mut self.logs.recorder {
             recorder.opened(k, number, conn);
         }
-        let told = match is_unfit {
+        let answered_ask = match is_unfit {
             true => self.unfit(k)?,
-            false => self.told(k, head)?,
+            false => self.answered(k, head)?,
         };
         self.end(k);
-        Ok(told.reply)
+        Ok(answered_ask.reply)
     }
 
     /// Ends the connection of a client in a place, if there is one.
@@ -44,29 +44,29 @@ impl<R: Clock, F: LogFiles + Drop> Observed<'_, R, F> {
     }
 
     // What the head asks, with its answer.
-    fn told(&mut self, k: usize, head: &[u8]) -> Result<Told, AllocError> {
-        let Answered { told, .. } = self.worker.bytes(k, head)?;
+    fn answered(&mut self, k: usize, head: &[u8]) -> Result<AnsweredAsk, AllocError> {
+        let Answered { answered_asks, .. } = self.worker.bytes(k, head)?;
         let record = match &mut self.logs.recorder {
             Some(recorder) => recorder.received(k, head, self.worker.is_fresh(k)),
             None => None,
         };
-        self.tell(k, &told, record.as_ref());
-        match told.into_iter().next() {
-            Some(told) => Ok(told),
+        self.log_decisions(k, &answered_asks, record.as_ref());
+        match answered_asks.into_iter().next() {
+            Some(answered_ask) => Ok(answered_ask),
             None => Ok(self.faulty(HeadFault::Unfinished)),
         }
     }
 
     // The facts of the client are outside the limits.
-    fn unfit(&mut self, k: usize) -> Result<Told, AllocError> {
-        let told = vec![in self.alloc; self.faulty(HeadFault::OutsideLimits)]?;
-        self.tell(k, &told, None);
+    fn unfit(&mut self, k: usize) -> Result<AnsweredAsk, AllocError> {
+        let answered_asks = vec![in self.alloc; self.faulty(HeadFault::OutsideLimits)]?;
+        self.log_decisions(k, &answered_asks, None);
         Ok(self.faulty(HeadFault::OutsideLimits))
     }
 
     // A head with this fault, and its answer.
-    fn faulty(&self, fault: HeadFault) -> Told {
-        Told {
+    fn faulty(&self, fault: HeadFault) -> AnsweredAsk {
+        AnsweredAsk {
             ask: Ask::Fault(fault),
             reply: self.reply_of(Case::Fault(fault)),
         }

@@ -6,12 +6,12 @@ mod front_faults;
 mod fronts;
 mod judgements;
 mod judging;
+mod loop_settings;
 mod mapped;
 mod network;
 mod observed;
 mod process;
 mod rule;
-mod setup;
 mod upkeep;
 mod words;
 

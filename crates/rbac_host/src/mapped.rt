@@ -1,11 +1,11 @@
 //! A server whose requests may be those of a front proxy.
 
 use crate::fronts::FrontConnection;
-use crate::observed::Observed;
-use crate::rule::Rule;
+use crate::observed::ObservedWorker;
+use crate::rule::MappingRule;
 use crate::words::closed_of;
 use attributes::Conn;
-use rbac_serve::{End, Heard, Loss, Sent, Service, Taken};
+use rbac_serve::{ConnectionResult, End, Loss, Sent, Service, UpdateResult};
 use serve_log::LogFiles;
 use serve_net::Places;
 use std::alloc::{AllocError, Global};
@@ -14,26 +14,26 @@ use std::rt::Clock;
 
 /// A server whose requests may be those of a front proxy.
 #[derive(Drop)]
-pub(crate) struct Mapped<'m, 'r, R: Clock, F: LogFiles + Drop> {
-    pub(crate) observed: Observed<'r, R, F>,
+pub(crate) struct MappedWorker<'m, 'r, R: Clock, F: LogFiles + Drop> {
+    pub(crate) observed: ObservedWorker<'r, R, F>,
     // how requests tell those of clients; without a rule each one is judged as it was sent
-    rule: Option<Rule<'m>>,
+    rule: Option<MappingRule<'m>>,
     // the connections of front proxies, by place
     fronts: Places<FrontConnection>,
 }
 
-impl<'m, 'r, R: Clock, F: LogFiles + Drop> Mapped<'m, 'r, R, F> {
+impl<'m, 'r, R: Clock, F: LogFiles + Drop> MappedWorker<'m, 'r, R, F> {
     /// No connection is open.
     pub(crate) fn new(
         alloc: Global,
-        observed: Observed<'r, R, F>,
-        rule: Option<Rule<'m>>,
-    ) -> Result<Mapped<'m, 'r, R, F>, AllocError> {
+        observed: ObservedWorker<'r, R, F>,
+        rule: Option<MappingRule<'m>>,
+    ) -> Result<MappedWorker<'m, 'r, R, F>, AllocError> {
         let places = match rule {
             Some(_) => observed.places(),
             None => 0,
         };
-        Ok(Mapped {
+        Ok(MappedWorker {
             observed,
             rule,
             fronts: Places::new(alloc, places)?,
@@ -53,10 +53,15 @@ impl<'m, 'r, R: Clock, F: LogFiles + Drop> Mapped<'m, 'r, R, F> {
     }
 
     // A connection of a front proxy delivers bytes.
-    fn hear(&mut self, k: usize, bytes: &[u8], rule: Rule<'m>) -> Result<Heard, AllocError> {
+    fn receive(
+        &mut self,
+        k: usize,
+        bytes: &[u8],
+        rule: MappingRule<'m>,
+    ) -> Result<ConnectionResult, AllocError> {
         match self.fronts.get_mut(k) {
-            Some(front) => front.hear(&mut self.observed, rule, bytes),
-            None => Ok(Heard {
+            Some(front) => front.receive(&mut self.observed, rule, bytes),
+            None => Ok(ConnectionResult {
                 rests: false,
                 answers: false,
                 closes: false,
@@ -73,7 +78,7 @@ impl<'m, 'r, R: Clock, F: LogFiles + Drop> Mapped<'m, 'r, R, F> {
     }
 }
 
-impl<R: Clock, F: LogFiles + Drop> Service for Mapped<'_, '_, R, F> {
+impl<R: Clock, F: LogFiles + Drop> Service for MappedWorker<'_, '_, R, F> {
     fn places(&self) -> usize {
         self.observed.places()
     }
@@ -85,9 +90,9 @@ impl<R: Clock, F: LogFiles + Drop> Service for Mapped<'_, '_, R, F> {
         }
     }
 
-    fn bytes(&mut self, k: usize, bytes: &[u8]) -> Result<Heard, AllocError> {
+    fn bytes(&mut self, k: usize, bytes: &[u8]) -> Result<ConnectionResult, AllocError> {
         match self.rule {
-            Some(rule) => self.hear(k, bytes, rule),
+            Some(rule) => self.receive(k, bytes, rule),
             None => self.observed.bytes(k, bytes),
         }
     }
@@ -122,7 +127,7 @@ impl<R: Clock, F: LogFiles + Drop> Service for Mapped<'_, '_, R, F> {
         self.observed.up()
     }
 
-    fn feed(&mut self, bytes: &[u8]) -> Result<Taken, AllocError> {
+    fn feed(&mut self, bytes: &[u8]) -> Result<UpdateResult, AllocError> {
         self.observed.feed(bytes)
     }
 

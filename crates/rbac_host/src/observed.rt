@@ -3,11 +3,11 @@
 use crate::words::{closed_of, words_of};
 use ads::Judgement;
 use attributes::Conn;
-use host_logs::{Connections, Logs, Scene, micros, unix_millis, verdict_of};
+use host_logs::{Connections, DecisionContext, Logs, micros, unix_millis, verdict_of};
 use http_front::Ask;
-use proxy_core::Told;
+use proxy_core::AnsweredAsk;
 use rbac_policy::Reason;
-use rbac_serve::{End, Heard, Loss, Sent, Service, Taken, Worker, judged};
+use rbac_serve::{ConnectionResult, End, Loss, Sent, Service, UpdateResult, Worker, judged};
 use serve_admin::{Admin, StreamStatus};
 use serve_log::{LogFiles, RecordPosition, Update, update_line};
 use std::alloc::{AllocError, Global};
@@ -19,7 +19,7 @@ const STEPS_SAMPLE: u64 = 64;
 
 /// A worker whose events are counted, logged and recorded.
 #[derive(Drop)]
-pub(crate) struct Observed<'r, R: Clock, F: LogFiles + Drop> {
+pub(crate) struct ObservedWorker<'r, R: Clock, F: LogFiles + Drop> {
     pub(crate) alloc: Global,
     pub(crate) rt: &'r R,
     pub(crate) worker: Worker,
@@ -32,17 +32,23 @@ pub(crate) struct Observed<'r, R: Clock, F: LogFiles + Drop> {
     pub(crate) refused: Option<io::Error>,
 }
 
-impl<R: Clock, F: LogFiles + Drop> Observed<'_, R, F> {
+impl<R: Clock, F: LogFiles + Drop> ObservedWorker<'_, R, F> {
     /// Counts and logs what was decided.
-    pub(crate) fn tell(&mut self, k: usize, told: &[Told], record: Option<&RecordPosition>) {
-        for told in told {
-            self.admin
-                .metrics
-                .decided(verdict_of(told.reply.case), &told.reply.matches);
+    pub(crate) fn log_decisions(
+        &mut self,
+        k: usize,
+        answered_asks: &[AnsweredAsk],
+        record: Option<&RecordPosition>,
+    ) {
+        for answered_ask in answered_asks {
+            self.admin.metrics.decided(
+                verdict_of(answered_ask.reply.case),
+                &answered_ask.reply.matches,
+            );
             self.decisions = self.decisions.saturating_add(1);
             if self.decisions >= STEPS_SAMPLE {
                 self.decisions = 0;
-                self.count_steps(&told.ask);
+                self.count_steps(&answered_ask.ask);
             }
         }
         let Some(accesses) = &mut self.logs.accesses else {
@@ -51,14 +57,14 @@ impl<R: Clock, F: LogFiles + Drop> Observed<'_, R, F> {
         let Some(connection) = self.connections.get(k) else {
             return;
         };
-        let scene = Scene {
+        let context = DecisionContext {
             time: unix_millis(self.rt),
             connection,
             client: self.worker.client(),
             record,
         };
-        for told in told {
-            accesses.tell(told, &scene);
+        for answered_ask in answered_asks {
+            accesses.log_decision(answered_ask, &context);
         }
     }
 
@@ -105,7 +111,7 @@ impl<R: Clock, F: LogFiles + Drop> Observed<'_, R, F> {
     }
 }
 
-impl<R: Clock, F: LogFiles + Drop> Service for Observed<'_, R, F> {
+impl<R: Clock, F: LogFiles + Drop> Service for ObservedWorker<'_, R, F> {
     fn places(&self) -> usize {
         self.worker.places()
     }
@@ -121,16 +127,16 @@ impl<R: Clock, F: LogFiles + Drop> Service for Observed<'_, R, F> {
         Ok(closes)
     }
 
-    fn bytes(&mut self, k: usize, bytes: &[u8]) -> Result<Heard, AllocError> {
+    fn bytes(&mut self, k: usize, bytes: &[u8]) -> Result<ConnectionResult, AllocError> {
         let answered = self.worker.bytes(k, bytes)?;
         let record = match &mut self.logs.recorder {
             Some(recorder) => recorder.received(k, bytes, self.worker.is_fresh(k)),
             None => None,
         };
-        self.tell(k, &answered.told, record.as_ref());
-        Ok(Heard {
+        self.log_decisions(k, &answered.answered_asks, record.as_ref());
+        Ok(ConnectionResult {
             rests: self.worker.is_fresh(k),
-            answers: !answered.told.is_empty(),
+            answers: !answered.answered_asks.is_empty(),
             closes: answered.closes,
         })
     }
@@ -171,13 +177,13 @@ impl<R: Clock, F: LogFiles + Drop> Service for Observed<'_, R, F> {
         Ok(())
     }
 
-    fn feed(&mut self, bytes: &[u8]) -> Result<Taken, AllocError> {
+    fn feed(&mut self, bytes: &[u8]) -> Result<UpdateResult, AllocError> {
         let began = micros(self.rt);
         let fed = self.worker.feed(bytes)?;
         let taken = micros(self.rt).saturating_sub(began);
         let judgement = fed.judgements.last();
         self.observe(bytes.get(..fed.count).unwrap_or(&[]), judgement, taken);
-        Ok(Taken {
+        Ok(UpdateResult {
             count: fed.count,
             response: judgement.map(judged),
             ended: fed.ended,
@@ -204,7 +210,7 @@ impl<R: Clock, F: LogFiles + Drop> Service for Observed<'_, R, F> {
     }
 }
 
-impl<R: Clock, F: LogFiles + Drop> Observed<'_, R, F> {
+impl<R: Clock, F: LogFiles + Drop> ObservedWorker<'_, R, F> {
     // Counts, logs and records bytes of the update stream, and the judgement of the response that they complete.
     fn observe(&mut self, bytes: &[u8], judgement: Option<&Judgement>, taken: u64) {
         match judgement {

@@ -1,11 +1,11 @@
 //! Runs a server until it is to end.
 
 use crate::errors::{errors_of, taken_streams};
-use crate::mapped::Mapped;
+use crate::loop_settings::loop_settings;
+use crate::mapped::MappedWorker;
 use crate::network::HostNetwork;
-use crate::observed::Observed;
-use crate::rule::Rule;
-use crate::setup::loop_settings;
+use crate::observed::ObservedWorker;
+use crate::rule::MappingRule;
 use crate::upkeep::Upkeep;
 use admin_port::AdminPort;
 use ads::Config;
@@ -56,7 +56,7 @@ pub fn host(
     let _streams = taken_streams(alloc, rt)?;
     let sockets = Sockets::open(alloc, rt, &settings)?;
     let observed = observed_of(alloc, rt, &config, &settings)?;
-    let mut mapped = Mapped::new(alloc, observed, Rule::of(&settings))?;
+    let mut mapped = MappedWorker::new(alloc, observed, MappingRule::of(&settings))?;
     let mut network = HostNetwork::new(alloc, sockets, conn);
     let mut port = AdminPort::new(alloc, RandomState::new(rt).map_err(HostFault::Wait)?)?;
     let mut server = Server::new(alloc, settings.connections, &loop_settings(&settings))?;
@@ -86,10 +86,10 @@ fn observed_of<'r>(
     rt: &'r HostRuntime,
     config: &Config,
     settings: &ServeConfig,
-) -> Result<Observed<'r, HostRuntime, &'r HostRuntime>, HostFault> {
+) -> Result<ObservedWorker<'r, HostRuntime, &'r HostRuntime>, HostFault> {
     let node = String::from_str(alloc, config.node())?;
     let filters = filters_of(alloc, config)?;
-    Ok(Observed {
+    Ok(ObservedWorker {
         alloc,
         rt,
         worker: Worker::new(alloc, config, settings.connections)?,

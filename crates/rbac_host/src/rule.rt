@@ -10,21 +10,21 @@ use std::alloc::{AllocError, Global};
 
 /// How the requests of a front proxy tell those of its clients.
 #[derive(Clone, Copy)]
-pub(crate) struct Rule<'m> {
+pub(crate) struct MappingRule<'m> {
     mapping: &'m Mapping,
     paths: Paths,
 }
 
-impl<'m> Rule<'m> {
+impl<'m> MappingRule<'m> {
     /// The rule of these settings; none if each request is judged as it was sent.
-    pub(crate) fn of(settings: &'m ServeConfig) -> Option<Rule<'m>> {
+    pub(crate) fn of(settings: &'m ServeConfig) -> Option<MappingRule<'m>> {
         let mapping = &settings.mapping;
         let paths = settings.paths;
         let is_empty = mapping.named().is_empty() && mapping.required().is_empty();
         if is_empty && paths == Paths::AsSent {
             return None;
         }
-        Some(Rule { mapping, paths })
+        Some(MappingRule { mapping, paths })
     }
 
     /// The request of the client, as this one of its front tells it.

@@ -1,7 +1,7 @@
 //! What is done after each turn of the loop: logs are written, and the status is brought up to date.
 
 use crate::network::HostNetwork;
-use crate::observed::Observed;
+use crate::observed::ObservedWorker;
 use serve_admin::AdminAction;
 use serve_log::{LogFiles, LogWriter, Update};
 use std::alloc::AllocError;
@@ -30,7 +30,7 @@ pub(crate) struct Upkeep {
     // when complaints were last looked for
     looked: u64,
     // when it was last told that connections cannot be accepted; none if it was not
-    told: Option<u64>,
+    reported: Option<u64>,
     // how many dropped lines were counted
     dropped: u64,
 }
@@ -43,7 +43,7 @@ impl Upkeep {
             record,
             missed: None,
             looked: 0,
-            told: None,
+            reported: None,
             dropped: 0,
         }
     }
@@ -52,7 +52,7 @@ impl Upkeep {
     pub(crate) fn turn<R: Net + Files + Clock + Input, F: LogFiles + Drop>(
         &mut self,
         network: &mut HostNetwork<'_, R>,
-        observed: &mut Observed<'_, R, F>,
+        observed: &mut ObservedWorker<'_, R, F>,
         now: u64,
     ) {
         match observed.admin.take_action() {
@@ -76,7 +76,7 @@ impl Upkeep {
     // Begins a new file of the record if its path has none any more.
     fn seek<R: Net + Files + Clock + Input, F: LogFiles + Drop>(
         &mut self,
-        observed: &mut Observed<'_, R, F>,
+        observed: &mut ObservedWorker<'_, R, F>,
         now: u64,
     ) {
         let Some(path) = &self.record else {
@@ -108,7 +108,7 @@ impl Upkeep {
     // Tells what went wrong, and reads the memory that the process takes.
     fn look<R: Net + Files + Clock + Input, F: LogFiles + Drop>(
         &mut self,
-        observed: &mut Observed<'_, R, F>,
+        observed: &mut ObservedWorker<'_, R, F>,
         now: u64,
     ) {
         if let Ok(pages) = resident_pages(observed.rt) {
@@ -121,19 +121,19 @@ impl Upkeep {
             .dropped_lines(dropped.saturating_sub(self.dropped));
         self.dropped = dropped;
         for _ in 0..LOGS {
-            if let Some(complaint) = observed.logs.complaint(now) {
-                let _ = writeln!(self.errors, "{complaint}");
+            if let Some(fault_report) = observed.logs.fault_report(now) {
+                let _ = writeln!(self.errors, "{fault_report}");
             }
         }
-        let is_silent = match self.told {
-            Some(told) => now.saturating_sub(told) < SILENCE,
+        let is_silent = match self.reported {
+            Some(reported) => now.saturating_sub(reported) < SILENCE,
             None => false,
         };
         if is_silent {
             return;
         }
         if let Some(cause) = observed.refused.take() {
-            self.told = Some(now);
+            self.reported = Some(now);
             let _ = writeln!(self.errors, "cannot accept connections: {cause}");
         }
     }

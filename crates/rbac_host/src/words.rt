@@ -14,8 +14,8 @@ pub(crate) fn words_of(alloc: Global, loss: Loss) -> Result<String, AllocError> 
         Loss::Ended(ended) => return StreamEnd(ended).to_string(alloc),
         Loss::Http2 => "the other end speaks HTTP/2",
         Loss::Tls => "the other end speaks TLS",
-        Loss::Late => "no response in time",
-        Loss::Blocked => "a request was not taken in time",
+        Loss::ResponseTimeout => "no response in time",
+        Loss::WriteTimeout => "a request was not taken in time",
         Loss::Memory => "out of memory",
     };
     String::from_str(alloc, words)
@@ -26,9 +26,9 @@ pub(crate) fn closed_of(end: End) -> Closed {
     match end {
         End::Served => Closed::Served,
         End::Reset => Closed::Reset,
-        End::Head => Closed::Head,
-        End::Idle => Closed::Idle,
-        End::Blocked => Closed::Blocked,
+        End::HeadTimeout => Closed::HeadTimeout,
+        End::IdleTimeout => Closed::IdleTimeout,
+        End::WriteTimeout => Closed::WriteTimeout,
         End::Memory => Closed::Memory,
         End::Drained => Closed::Drained,
         End::Unfit => Closed::Unfit,

@@ -29,7 +29,7 @@ use Rattle.rbac_judge.specs.declared.explain.Explanation.TheVariants as explanat
 use Rattle.rbac_judge.specs.private.Printed.{without_memory}
 use Rattle.rbac_judge.specs.declared.outcome.Outcome.TheVariants as outcomes
 use Rattle.rbac_judge.specs.declared.report.Report.{Report}
-use Rattle.rbac_judge.specs.Json.{untold}
+use Rattle.rbac_judge.specs.Json.{no_cause}
 
 -- the text of one answer more
 pub text_more : (answers : List Answer) (answer : Answer)
@@ -193,7 +193,7 @@ no_memory = record {
   name = None;
   json = true;
   explanation = explanations.Absent;
-  why = untold;
+  why = no_cause;
 }
 
 -- that memory ran out answers any line
@@ -220,27 +220,27 @@ answered_as items (Err e) enforced explain absent n found line text by same memo
 -- the head of a text is that of its one value
 of_value : (absent : Facts) (line : List ℕ) (d : Data) (head : List ℕ) (facts : Facts) → read line ≡ Some d
     → IsHeadText absent line head facts → IsHead absent d head facts
-of_value absent line d head facts is told =
-    let same : told.1.0 ≡ d = cc (told.1.1) in
-    rw same at told.1.2
+of_value absent line d head facts is reported =
+    let same : reported.1.0 ≡ d = cc (reported.1.1) in
+    rw same at reported.1.2
 
 -- what is no JSON text has no head
 pub of_none : (absent : Facts) (line head : List ℕ) (facts : Facts) → read line ≡ None
     → IsHeadText absent line head facts → ⊥
-of_none absent line head facts none told = cc (told.1.1)
+of_none absent line head facts none reported = cc (reported.1.1)
 
 -- a text whose value has no head has none
 no_head : (absent : Facts) (line : List ℕ) (d : Data) → IsUtf8 line → read line ≡ Some d → LacksHead absent d
     → HasNoHead absent line
-no_head absent line d utf is (inl none) = inl (λ head facts told. none head facts (of_value absent line d head facts is told))
-no_head absent line d utf is (inr (head, facts, told, outside)) = inr (head, facts, (utf, (d, is, told)), outside)
+no_head absent line d utf is (inl none) = inl (λ head facts reported. none head facts (of_value absent line d head facts is reported))
+no_head absent line d utf is (inr (head, facts, reported, outside)) = inr (head, facts, (utf, (d, is, reported)), outside)
 
 -- the id of a line is that of its value
-id_of : (line : List ℕ) (d : Data) (told : Option (List ℕ)) → IsUtf8 line → read line ≡ Some d
-    → IsIdText (get (codes "id") d) told → IsIdOf line told
-id_of line d told utf is id = of (get (codes "id") d) told refl id
+id_of : (line : List ℕ) (d : Data) (reported : Option (List ℕ)) → IsUtf8 line → read line ≡ Some d
+    → IsIdText (get (codes "id") d) reported → IsIdOf line reported
+id_of line d reported utf is id = of (get (codes "id") d) reported refl id
   where
-    of : (found : Option Data) (told : Option (List ℕ)) → get (codes "id") d ≡ found → IsIdText found told → IsIdOf line told
+    of : (found : Option Data) (reported : Option (List ℕ)) → get (codes "id") d ≡ found → IsIdText found reported → IsIdOf line reported
     of (Some value) (Some text) there id = (utf, (d, value, is, there, id))
     of (Some value) None there id = absurd id
     of None (Some text) there id = absurd id
@@ -250,21 +250,21 @@ id_of line d told utf is id = of (get (codes "id") d) told refl id
 
 -- the answer to a value, with its id, is that to its line
 pub answered_at : (enforced : Filter Program) (explain : Bool) (absent : Facts) (n : ℕ) (line text plain : List ℕ) (d : Data)
-    (told : Option (List ℕ)) → IsUtf8 line → read line ≡ Some d → ¬ IsTooLong line
-    → IsPlainAnswer enforced explain absent d n plain → IsIdText (get (codes "id") d) told → text ≡ with_id told plain
+    (reported : Option (List ℕ)) → IsUtf8 line → read line ≡ Some d → ¬ IsTooLong line
+    → IsPlainAnswer enforced explain absent d n plain → IsIdText (get (codes "id") d) reported → text ≡ with_id reported plain
     → IsAnsweredBy enforced explain absent n line text
-answered_at enforced explain absent n line text plain d told utf is short (inl (report, at_value, prints)) id same = record {
-  answer = judged told report;
-  same = same ∙ ap (with_id told) prints;
+answered_at enforced explain absent n line text plain d reported utf is short (inl (report, at_value, prints)) id same = record {
+  answer = judged reported report;
+  same = same ∙ ap (with_id reported) prints;
   right = λ policy budget filter admits. (
     at_value.is.json,
     inr (
-      id_of line d told utf is id,
+      id_of line d reported utf is id,
       record {
         head = at_value.head;
         facts = at_value.facts;
         short = short;
-        told = (utf, (d, is, at_value.told));
+        reported = (utf, (d, is, at_value.reported));
         fits = at_value.fits;
         found = at_value.is.under policy budget filter _ admits at_value.is.named;
         given = at_value.is.given;
@@ -272,11 +272,11 @@ answered_at enforced explain absent n line text plain d told utf is short (inl (
     ),
   );
 }
-answered_at enforced explain absent n line text plain d told utf is short (inr (lacks, (cause, prints))) id same = record {
-  answer = bad told n cause;
-  same = same ∙ ap (with_id told) prints;
+answered_at enforced explain absent n line text plain d reported utf is short (inr (lacks, (cause, prints))) id same = record {
+  answer = bad reported n cause;
+  same = same ∙ ap (with_id reported) prints;
   right = λ policy budget filter admits.
-      (refl, inr (short, id_of line d told utf is id, no_head absent line d utf is lacks));
+      (refl, inr (short, id_of line d reported utf is id, no_head absent line d utf is lacks));
 }
 
 -- what is no JSON text has neither head nor id
@@ -291,7 +291,7 @@ answered_none_at enforced explain absent n line text cause none short same = rec
     inr (
       short,
       (λ d utf is. let clash : Some d ≡ None = sym is ∙ none utf in cc),
-      inl (λ head facts told. of_none absent line head facts (none told.0) told),
+      inl (λ head facts reported. of_none absent line head facts (none reported.0) reported),
     ),
   );
 }

@@ -14,7 +14,7 @@ use Rattle.rbac_policy.specs.Condition.{Program}
 use Rattle.rbac_policy.specs.Filter.{Filter}
 use Rattle.rbac_judge.specs.Explain.{Explains, IsGiven}
 use Rattle.rbac_judge.specs.Judging.{InputFault, IsAllOf, IsDecided, IsDecision, IsOutcomeOf}
-use Rattle.rbac_judge.specs.private.Printed.{less_told}
+use Rattle.rbac_judge.specs.private.Printed.{without_trials}
 use Rattle.rbac_judge.specs.private.Judged.{IsAnswerTo, IsExplanationOf, IsNameOf, IsOutcomeOfAsk, IsOutcomeUnder, bare}
 use Rattle.rbac_judge.specs.private.Reading.{IsFound}
 use Rattle.rbac_judge.specs.declared.explain.Explanation.{Explanation}
@@ -30,10 +30,10 @@ some_bytes None = ([], tt)
 
 -- what explains a request does where less is told
 less_explains : (r : RequestValue) (filter : Filter CelChecked) (explanation : Explanation)
-    → Explains r filter explanation → Explains r filter (less_told explanation)
+    → Explains r filter explanation → Explains r filter (without_trials explanation)
 less_explains r filter explanations.Absent explains = tt
 less_explains r filter (explanations.Trials trials) explains = refl
-less_explains r filter (explanations.Untold cause) explains = explains
+less_explains r filter (explanations.Unavailable cause) explains = explains
 
 module _ (policy : List ℕ) (budget : ℕ) (facts : Facts) (bytes : List ℕ) where
   -- a verdict with another explanation that its request has
@@ -71,9 +71,9 @@ module _ (policy : List ℕ) (budget : ℕ) (facts : Facts) (bytes : List ℕ) w
   -- an outcome is one where less is told
   pub less_found : (name : Option (List ℕ)) (explanation : Explanation) (outcome : Outcome)
       → IsOutcomeOf policy budget facts bytes name explanation outcome
-      → IsOutcomeOf policy budget facts bytes name (less_told explanation) outcome
+      → IsOutcomeOf policy budget facts bytes name (without_trials explanation) outcome
   less_found name explanation outcome found =
-      found_as name explanation (less_told explanation) outcome
+      found_as name explanation (without_trials explanation) outcome
       (λ r filter explains. less_explains r filter explanation explains) found
 
   -- a request that is asked for is not outside the limits

@@ -99,7 +99,7 @@ module _ (policy : List ℕ) (budget : ℕ) (absent : Facts) (explain : Bool) wh
     pub head : List ℕ
     pub facts : Facts
     pub short : ¬ IsTooLong line
-    pub told : IsHeadText absent line head facts
+    pub reported : IsHeadText absent line head facts
     pub fits : FactsInLimits facts largest
     pub found : IsOutcomeOf policy budget facts head (option_map string_bytes report.name) report.explanation report.outcome
     pub given : IsGiven report.explanation ↔ (IsTrue explain × IsDecision report.outcome)
@@ -109,7 +109,7 @@ module _ (policy : List ℕ) (budget : ℕ) (absent : Facts) (explain : Bool) wh
   abbrev pub IsAnswer : ℕ → List ℕ → Answer → Type 0
   IsAnswer n line (judged id report) = (report.json ≡ true)
       × (((id ≡ None) × (report.outcome ≡ outcomes.Memory)) ⊎ (IsIdOf line id × IsReportOn line report))
-  IsAnswer n line (bad id told cause) = (told ≡ n)
+  IsAnswer n line (bad id reported cause) = (reported ≡ n)
       × ((IsTooLong line × (id ≡ None)) ⊎ ((¬ IsTooLong line) × IsIdOf line id × HasNoHead absent line))
 
   -- the answers to the lines, one for each, in order; the first line has the number `n`

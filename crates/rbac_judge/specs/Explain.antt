@@ -40,27 +40,27 @@ own_trial_view trial =
 
 -- a trial as it is told, with the texts of its causes: the leaves of its rules that decide, and the part of its condition
 -- that an error is from
-pub record ToldTrial : Type 0 where
+pub record ReportedTrial : Type 0 where
   pub trial : TrialValue
   pub causes : List (List ℕ)
 
 -- what is told of a trial
-abbrev pub told_trial_view : OwnTrial → ToldTrial
-told_trial_view trial =
+abbrev pub reported_trial_view : OwnTrial → ReportedTrial
+reported_trial_view trial =
     record { trial = own_trial_view trial; causes = map string_bytes trial.causes.items }
 
 -- the trials of an explanation, if it has trials
-abbrev pub told_in : Explanation → Option (List ToldTrial)
-told_in explanations.Absent = None
-told_in (explanations.Trials trials) = Some (map told_trial_view trials.items)
-told_in (explanations.Untold cause) = None
+abbrev pub reported_trials : Explanation → Option (List ReportedTrial)
+reported_trials explanations.Absent = None
+reported_trials (explanations.Trials trials) = Some (map reported_trial_view trials.items)
+reported_trials (explanations.Unavailable cause) = None
 
 -- these are the policies that are tried for the request, in order
 abbrev pub AreTried : RequestValue → Filter CelChecked → List TrialValue → Type 0
-AreTried request filter told = (trials : List Trial)
+AreTried request filter reported = (trials : List Trial)
     × AreTrials (HasReason (Means request) (TakesSteps largest request) request) 0
     (entries filter.policies) trials
-    × (told ≡ map trial_view trials)
+    × (reported ≡ map trial_view trials)
 
 -- the explanation is right: its trials are those of the request. Trials that were asked for are absent only if memory
 -- ran out
@@ -68,13 +68,13 @@ abbrev pub Explains : RequestValue → Filter CelChecked → Explanation → Typ
 Explains request filter explanations.Absent = ⊤
 Explains request filter (explanations.Trials trials) =
     AreTried request filter (map own_trial_view trials.items)
-Explains request filter (explanations.Untold cause) = cause ≡ errors.Memory
+Explains request filter (explanations.Unavailable cause) = cause ≡ errors.Memory
 
 -- the explanation has trials, or the cause for which it has none
 abbrev pub IsGiven : Explanation → Type 0
 IsGiven explanations.Absent = ⊥
 IsGiven (explanations.Trials trials) = ⊤
-IsGiven (explanations.Untold cause) = ⊤
+IsGiven (explanations.Unavailable cause) = ⊤
 
 -- a character as it is written between quotes: as `\"`, `\\`, `\0`, `\t`, `\n`, `\r`, `\u{1b}` or itself
 abbrev pub escaped : ℕ → List ℕ
@@ -110,13 +110,13 @@ abbrev pub cause_line : List ℕ → List ℕ
 cause_line cause = 32 ∷ 32 ∷ (cause ++ 10 ∷ [])
 
 -- the line of a trial, followed by those of its causes
-abbrev pub trial_lines : ToldTrial → List ℕ
-trial_lines told = trial_line told.trial ++ flat_map cause_line told.causes
+abbrev pub trial_lines : ReportedTrial → List ℕ
+trial_lines reported = trial_line reported.trial ++ flat_map cause_line reported.causes
 
 -- a line, followed by the lines of the trials, if there are any to show
-abbrev pub with_trials : List ℕ → Option (List ToldTrial) → List ℕ
+abbrev pub with_trials : List ℕ → Option (List ReportedTrial) → List ℕ
 with_trials line None = line
-with_trials line (Some told) = line ++ flat_map trial_lines told
+with_trials line (Some reported) = line ++ flat_map trial_lines reported
 
 -- the members `name`, `number` and `reason` of a trial's object, with this word as the reason, and then the rest
 abbrev pub trial_members : TrialValue → List ℕ → Members → Members
@@ -129,29 +129,29 @@ abbrev pub causes_json : List (List ℕ) → Data
 causes_json causes = array (items_of (map string causes))
 
 -- the object of a trial that has this reason
-abbrev pub reason_json : ToldTrial → Reason → Data
-reason_json told (ConditionFails e) = object (member (codes "causes") (causes_json told.causes)
+abbrev pub reason_json : ReportedTrial → Reason → Data
+reason_json reported (ConditionFails e) = object (member (codes "causes") (causes_json reported.causes)
     (member (codes "error") (string (error_name e))
-    (trial_members told.trial (codes "condition error") no_members)))
-reason_json told (ConditionTrue steps bound) =
+    (trial_members reported.trial (codes "condition error") no_members)))
+reason_json reported (ConditionTrue steps bound) =
     object (member (codes "bound") (number (unsigned bound))
-    (member (codes "causes") (causes_json told.causes)
-    (trial_members told.trial (codes "condition true")
+    (member (codes "causes") (causes_json reported.causes)
+    (trial_members reported.trial (codes "condition true")
     (member (codes "steps") (number (unsigned steps)) no_members))))
-reason_json told reason = object (member (codes "causes") (causes_json told.causes)
-    (trial_members told.trial (reason_text reason) no_members))
+reason_json reported reason = object (member (codes "causes") (causes_json reported.causes)
+    (trial_members reported.trial (reason_text reason) no_members))
 
 -- the object of a trial
-abbrev pub trial_json : ToldTrial → Data
-trial_json told = reason_json told told.trial.reason
+abbrev pub trial_json : ReportedTrial → Data
+trial_json reported = reason_json reported reported.trial.reason
 
 -- the member `trials`, if there are trials to show, and then the rest
-abbrev pub put_trials : Option (List ToldTrial) → Members → Members
+abbrev pub put_trials : Option (List ReportedTrial) → Members → Members
 put_trials None rest = rest
-put_trials (Some told) rest = member (codes "trials") (array (items_of (map trial_json told))) rest
+put_trials (Some reported) rest = member (codes "trials") (array (items_of (map trial_json reported))) rest
 
 -- the text on standard error if the trials cannot be shown
-abbrev pub untold_text : RunError → List ℕ
-untold_text errors.Memory = codes "cannot explain" ++ 10 ∷ (codes "  memory ran out" ++ 10 ∷ [])
-untold_text errors.OutOfSteps =
+abbrev pub unavailable_text : RunError → List ℕ
+unavailable_text errors.Memory = codes "cannot explain" ++ 10 ∷ (codes "  memory ran out" ++ 10 ∷ [])
+unavailable_text errors.OutOfSteps =
     codes "cannot explain" ++ 10 ∷ (codes "  a condition takes more steps than it may" ++ 10 ∷ [])

@@ -5,7 +5,7 @@ use Rattle.http_front.specs.declared.fault.HeadFault.{HeadFault}
 use Rattle.proto_wire.specs.Refusal.{name_of, number_of}
 use Rattle.proto_wire.specs.declared.refusal.Refusal.{Refusal}
 use Rattle.serde_json.specs.Data.{Data, null, boolean, number, unsigned, string, object, member, no_members}
-use Rattle.rbac_judge.specs.Explain.{ToldTrial, put_trials}
+use Rattle.rbac_judge.specs.Explain.{ReportedTrial, put_trials}
 use Rattle.rbac_judge.specs.declared.json.Why.{Why}
 use Rattle.rbac_judge.specs.declared.outcome.Outcome.{Outcome}
 use Rattle.rbac_judge.specs.declared.outcome.Outcome.TheVariants as outcomes
@@ -36,14 +36,14 @@ why_view why =
     record { cause = option_map string_bytes why.cause; place = option_map string_bytes why.place }
 
 -- neither a cause nor a part is known
-abbrev pub untold : Why
-untold = record { cause = None; place = None }
+abbrev pub no_cause : Why
+no_cause = record { cause = None; place = None }
 
 -- the object of a verdict: the name and the number of the policy that matched, and the trials, if there are any to show
-abbrev pub verdict_json : List ℕ → Option (List ℕ) → Option ℕ → Option (List ToldTrial) → Data
-verdict_json word name matched told = object (member (codes "name") (text_json name)
+abbrev pub verdict_json : List ℕ → Option (List ℕ) → Option ℕ → Option (List ReportedTrial) → Data
+verdict_json word name matched reported = object (member (codes "name") (text_json name)
     (member (codes "policy") (matched_json matched)
-    (put_trials told (member (codes "verdict") (string word) no_members))))
+    (put_trials reported (member (codes "verdict") (string word) no_members))))
 
 -- the object of a policy that is refused
 abbrev pub refused_json : WhyValue → Refusal → Data
@@ -64,12 +64,12 @@ fault_json words cause =
 
 -- the object of an outcome. A verdict has the name of the policy that matched, and the trials, if there are any to
 -- show. A refusal or a head's fault has its cause
-abbrev pub json_of : Option (List ℕ) → Option (List ToldTrial) → WhyValue → Outcome → Data
-json_of name told why (outcomes.Admitted policies bound) = admitted_json policies bound
-json_of name told why (outcomes.Allowed matched) = verdict_json (codes "allow") name matched told
-json_of name told why (outcomes.Denied matched) = verdict_json (codes "deny") name matched told
-json_of name told why outcomes.OutOfSteps = object (member (codes "out_of_steps") (boolean true)
+abbrev pub json_of : Option (List ℕ) → Option (List ReportedTrial) → WhyValue → Outcome → Data
+json_of name reported why (outcomes.Admitted policies bound) = admitted_json policies bound
+json_of name reported why (outcomes.Allowed matched) = verdict_json (codes "allow") name matched reported
+json_of name reported why (outcomes.Denied matched) = verdict_json (codes "deny") name matched reported
+json_of name reported why outcomes.OutOfSteps = object (member (codes "out_of_steps") (boolean true)
     (member (codes "verdict") (string (codes "deny")) no_members))
-json_of name told why (outcomes.Refused reason) = refused_json why reason
-json_of name told why (outcomes.Fault fault) = head_json why fault
-json_of name told why outcomes.Memory = object (member (codes "memory") (boolean true) no_members)
+json_of name reported why (outcomes.Refused reason) = refused_json why reason
+json_of name reported why (outcomes.Fault fault) = head_json why fault
+json_of name reported why outcomes.Memory = object (member (codes "memory") (boolean true) no_members)

@@ -5,7 +5,7 @@ use Rattle.http_front.specs.Head.{fault_text}
 use Rattle.proto_wire.specs.Refusal as refusal
 use Rattle.proto_wire.specs.declared.refusal.Refusal.{Refusal}
 use Rattle.serde_json.specs.Written.{compact_text}
-use Rattle.rbac_judge.specs.Explain.{told_in, with_trials}
+use Rattle.rbac_judge.specs.Explain.{reported_trials, with_trials}
 use Rattle.rbac_judge.specs.Json.{json_of, why_view}
 use Rattle.rbac_judge.specs.declared.outcome.Outcome.{Outcome}
 use Rattle.rbac_judge.specs.declared.outcome.Outcome.TheVariants as outcomes
@@ -36,9 +36,9 @@ line_of outcome = text_of outcome ++ 10 ∷ []
 abbrev pub printed_of : Report → List ℕ
 printed_of report =
     if report.json
-    then compact_text (json_of (option_map string_bytes report.name) (told_in report.explanation)
+    then compact_text (json_of (option_map string_bytes report.name) (reported_trials report.explanation)
     (why_view report.why) report.outcome) ++ 10 ∷ []
-    else with_trials (line_of report.outcome) (told_in report.explanation)
+    else with_trials (line_of report.outcome) (reported_trials report.explanation)
 
 -- the exit status of an outcome
 abbrev pub status_of : Outcome → ℕ

@@ -37,7 +37,7 @@ pub const BLOCK: usize = 65_536;
 
 /// What the heads of a batch are judged by.
 #[derive(Drop)]
-pub struct Basis {
+pub struct BatchSettings {
     /// The bytes of the policy file.
     pub policy: Vec<u8>,
     /// The filter of the policy file.
@@ -52,7 +52,7 @@ pub struct Basis {
 /// and written in blocks. The batch ends at the end of the input.
 pub fn batch<R: BufRead, W: Write>(
     alloc: Global,
-    basis: &Basis,
+    basis: &BatchSettings,
     input: &mut R,
     out: &mut W,
 ) -> Result<(), ReplayFault>
@@ -169,7 +169,12 @@ fn bytes_of(answered: &Result<Vec<u8>, AllocError>) -> &[u8]
 }
 
 /// The line that answers this line: the report on its head, or why it has none.
-fn answer(alloc: Global, basis: &Basis, line: &HeadLine, number: u64) -> Result<Vec<u8>, AllocError>
+fn answer(
+    alloc: Global,
+    basis: &BatchSettings,
+    line: &HeadLine,
+    number: u64,
+) -> Result<Vec<u8>, AllocError>
     requires { limits_view basis.now.admitted ≡ largest }
     ensures { IfOk result (λ text. (bytes : List ℕ) → IsLineOf line.now bytes
         → IsAnsweredBy (filter_view basis.now.admitted) basis.now.explain (conn_view basis.now.conn)
@@ -187,7 +192,7 @@ fn answer(alloc: Global, basis: &Basis, line: &HeadLine, number: u64) -> Result<
 /// The line that answers a line with these bytes. Its first member is the line's id, if it has one.
 fn answer_to_bytes(
     alloc: Global,
-    basis: &Basis,
+    basis: &BatchSettings,
     line: &[u8],
     number: u64,
 ) -> Result<Vec<u8>, AllocError>
@@ -213,7 +218,7 @@ fn answer_to_bytes(
 /// The line that answers a line with this JSON value, without the line's id.
 fn answer_to_value(
     alloc: Global,
-    basis: &Basis,
+    basis: &BatchSettings,
     value: &Value,
     number: u64,
 ) -> Result<String, AllocError>
@@ -234,9 +239,9 @@ fn answer_to_value(
 /// The text of an object, with the id as its first member, if there is one.
 fn with_id(alloc: Global, id: Option<&Value>, text: String) -> Result<Vec<u8>, AllocError>
     requires { IfSome id (λ v. depth (view v.now) ≤ max_depth) }
-    ensures { IfOk result (λ line. (told : Option (List ℕ))
-        × IsIdText (option_map (λ v. view v.now) id.entry) told
-        × (line.items ≡ with_id told (string_bytes text))) }
+    ensures { IfOk result (λ line. (reported : Option (List ℕ))
+        × IsIdText (option_map (λ v. view v.now) id.entry) reported
+        × (line.items ≡ with_id reported (string_bytes text))) }
 {
     match id {
         Some(value) => with_value(alloc, value, text.as_bytes()),
@@ -284,7 +289,7 @@ fn bad_value(alloc: Global, number: u64, cause: &str) -> Result<Value, AllocErro
 }
 
 /// The report on the head of a JSON value.
-fn report_of_value(alloc: Global, basis: &Basis, value: &Value) -> Result<Report, LineFault>
+fn report_of_value(alloc: Global, basis: &BatchSettings, value: &Value) -> Result<Report, LineFault>
     requires { limits_view basis.now.admitted ≡ largest }
     ensures found { IfOk result (IsReportAt (filter_view basis.now.admitted) basis.now.explain
         (conn_view basis.now.conn) (view value.now)) }
@@ -319,7 +324,7 @@ fn facts_or(alloc: Global, object: &Value, absent: &Conn) -> Result<Conn, LineFa
 /// The report on a head that arrives on this connection, as JSON.
 fn report_of_head(
     alloc: Global,
-    basis: &Basis,
+    basis: &BatchSettings,
     head: &[u8],
     conn: Conn,
 ) -> Result<Report, AllocError>
@@ -336,7 +341,7 @@ fn report_of_head(
     let mut notes = Notes::new(alloc);
     notes.look_at_head(alloc, head, finding.outcome);
     let why = notes.why(alloc, finding.outcome);
-    Ok(finding.report(true).told(why))
+    Ok(finding.report(true).with_why(why))
 }
 
 /// Why a line is no JSON text, in words for its author. The place is told without a line's number, since the answer has

@@ -2,8 +2,8 @@
 ghost use Rattle.std.specs.Prelude.{◌≡◌, ◌∷◌, ◌++◌, [], codes, IfOk, OnOk, map, string_bytes};
 ghost use Rattle.std.specs.Fmt.{decimal};
 ghost use Rattle.std.specs.List.{flat_map};
-ghost use Rattle.rbac_judge.specs.private.Printed.{less_told};
-ghost use Rattle.rbac_judge.specs.Explain.{cause_line, escaped, own_trial_view, quoted, reason_text, told_trial_view, trial_line, trial_lines, trial_view, untold_text};
+ghost use Rattle.rbac_judge.specs.private.Printed.{without_trials};
+ghost use Rattle.rbac_judge.specs.Explain.{cause_line, escaped, own_trial_view, quoted, reason_text, reported_trial_view, trial_line, trial_lines, trial_view, unavailable_text};
 
 use crate::error_place::place_of_error;
 use attributes::Request;
@@ -47,18 +47,18 @@ pub enum Explanation {
     /// The policies that were tried, in order.
     Trials(Vec<OwnTrial>),
     /// It was asked for, but cannot be shown, for this cause.
-    Untold(RunError),
+    Unavailable(RunError),
 }
 
 impl Explanation {
     /// The explanation without trials, if there is no memory to print them.
-    pub(crate) fn less_told(self) -> Explanation
-        ensures { result ≡ less_told self }
+    pub(crate) fn without_trials(self) -> Explanation
+        ensures { result ≡ without_trials self }
     {
         match self {
-            Explanation::Trials(_) => Explanation::Untold(RunError::Memory),
+            Explanation::Trials(_) => Explanation::Unavailable(RunError::Memory),
             Explanation::Absent => Explanation::Absent,
-            Explanation::Untold(cause) => Explanation::Untold(cause),
+            Explanation::Unavailable(cause) => Explanation::Unavailable(cause),
         }
     }
 }
@@ -127,7 +127,7 @@ pub(crate) fn push_lines(
     trials: &[OwnTrial],
 ) -> Result<(), AllocError>
     ensures { OnOk result (string_bytes text.new
-        ≡ string_bytes text.old ++ flat_map trial_lines (map told_trial_view trials.now)) }
+        ≡ string_bytes text.old ++ flat_map trial_lines (map reported_trial_view trials.now)) }
 {
     for trial in trials {
         let lines = lines_of_trial(alloc, trial)?;
@@ -138,7 +138,7 @@ pub(crate) fn push_lines(
 
 /// The line of a trial, followed by those of its causes.
 fn lines_of_trial(alloc: Global, trial: &OwnTrial) -> Result<String, AllocError>
-    ensures { IfOk result (λ lines. string_bytes lines ≡ trial_lines (told_trial_view trial.now)) }
+    ensures { IfOk result (λ lines. string_bytes lines ≡ trial_lines (reported_trial_view trial.now)) }
 {
     let mut lines = line_of_trial(alloc, trial)?;
     push_causes(&mut lines, &trial.causes)?;
@@ -242,8 +242,8 @@ fn push_escaped(alloc: Global, text: &mut String, c: char) -> Result<(), AllocEr
 }
 
 /// The text on standard error if the trials cannot be shown, for this cause.
-pub fn untold_text(cause: RunError) -> &'static [u8]
-    ensures { result.now ≡ untold_text cause }
+pub fn unavailable_text(cause: RunError) -> &'static [u8]
+    ensures { result.now ≡ unavailable_text cause }
 {
     match cause {
         RunError::Memory => b"cannot explain\n  memory ran out\n",

@@ -3,8 +3,8 @@ ghost use Rattle.std.specs.Prelude.{◌≡◌, IfOk, None, Some, codes, map, opt
 ghost use Rattle.serde_json.specs.Data.{array, member, no_members, object};
 ghost use Rattle.serde_json.specs.View.{items_of, view};
 ghost use Rattle.rbac_policy.specs.declared.reason.Reason.TheVariants.{ConditionFails, ConditionTrue};
-ghost use Rattle.rbac_judge.specs.Explain.{causes_json, own_trial_view, reason_json, told_in, told_trial_view, trial_json, trial_members};
-ghost use Rattle.rbac_judge.specs.Json.{admitted_json, head_json, json_of, matched_json, text_json, refused_json, untold, verdict_json, why_view};
+ghost use Rattle.rbac_judge.specs.Explain.{causes_json, own_trial_view, reason_json, reported_trials, reported_trial_view, trial_json, trial_members};
+ghost use Rattle.rbac_judge.specs.Json.{admitted_json, head_json, json_of, matched_json, text_json, refused_json, no_cause, verdict_json, why_view};
 
 use crate::explain::{Explanation, OwnTrial};
 use crate::outcome::Outcome;
@@ -27,7 +27,7 @@ pub struct Why {
 impl Why {
     /// Neither a cause nor a part is known.
     pub(crate) fn none() -> Why
-        ensures { result ≡ untold }
+        ensures { result ≡ no_cause }
     {
         Why {
             cause: None,
@@ -46,7 +46,7 @@ pub(crate) fn value_of(
     why: &Why,
 ) -> Result<Value, AllocError>
     ensures { IfOk result (λ value. view value ≡ json_of (option_map string_bytes name.now)
-        (told_in explanation.now) (why_view why.now) outcome) }
+        (reported_trials explanation.now) (why_view why.now) outcome) }
 {
     match outcome {
         Outcome::Admitted { policies, bound } => admitted_value(alloc, policies, bound),
@@ -75,12 +75,12 @@ fn verdict_value(
     explanation: &Explanation,
 ) -> Result<Value, AllocError>
     ensures { IfOk result (λ value. view value ≡ verdict_json word.now
-        (option_map string_bytes name.now) matched (told_in explanation.now)) }
+        (option_map string_bytes name.now) matched (reported_trials explanation.now)) }
 {
     match explanation {
         Explanation::Trials(trials) => explained_value(alloc, word, name, matched, trials),
         Explanation::Absent => plain_value(alloc, word, name, matched),
-        Explanation::Untold(_) => plain_value(alloc, word, name, matched),
+        Explanation::Unavailable(_) => plain_value(alloc, word, name, matched),
     }
 }
 
@@ -107,7 +107,7 @@ fn explained_value(
     trials: &[OwnTrial],
 ) -> Result<Value, AllocError>
     ensures { IfOk result (λ value. view value ≡ verdict_json word.now
-        (option_map string_bytes name.now) matched (Some (map told_trial_view trials.now))) }
+        (option_map string_bytes name.now) matched (Some (map reported_trial_view trials.now))) }
 {
     let name = text_value(alloc, name)?;
     let trials = trials_value(alloc, trials)?;
@@ -117,7 +117,7 @@ fn explained_value(
 /// The array of the trials' objects.
 fn trials_value(alloc: Global, trials: &[OwnTrial]) -> Result<Value, AllocError>
     ensures { IfOk result (λ value. view value
-        ≡ array (items_of (map trial_json (map told_trial_view trials.now)))) }
+        ≡ array (items_of (map trial_json (map reported_trial_view trials.now)))) }
 {
     let mut values = Vec::new(alloc);
     for trial in trials {
@@ -128,7 +128,7 @@ fn trials_value(alloc: Global, trials: &[OwnTrial]) -> Result<Value, AllocError>
 
 /// The object of a trial.
 fn trial_value(alloc: Global, trial: &OwnTrial) -> Result<Value, AllocError>
-    ensures { IfOk result (λ value. view value ≡ trial_json (told_trial_view trial.now)) }
+    ensures { IfOk result (λ value. view value ≡ trial_json (reported_trial_view trial.now)) }
 {
     match trial.reason {
         Reason::NoPermission => reason_value(alloc, trial, "permission"),
@@ -143,7 +143,7 @@ fn trial_value(alloc: Global, trial: &OwnTrial) -> Result<Value, AllocError>
 /// The object of a trial whose reason is this word.
 fn reason_value(alloc: Global, trial: &OwnTrial, word: &str) -> Result<Value, AllocError>
     ensures { IfOk result (λ value. view value
-        ≡ object (member (codes "causes") (causes_json (told_trial_view trial.now).causes)
+        ≡ object (member (codes "causes") (causes_json (reported_trial_view trial.now).causes)
         (trial_members (own_trial_view trial.now) word.now no_members))) }
 {
     let causes = causes_value(alloc, &trial.causes)?;
@@ -169,7 +169,7 @@ fn causes_value(alloc: Global, causes: &[String]) -> Result<Value, AllocError>
 /// The object of a trial whose condition fails with this error.
 fn fails_value(alloc: Global, trial: &OwnTrial, error: CelError) -> Result<Value, AllocError>
     ensures { IfOk result (λ value. view value
-        ≡ reason_json (told_trial_view trial.now) (ConditionFails error)) }
+        ≡ reason_json (reported_trial_view trial.now) (ConditionFails error)) }
 {
     let causes = causes_value(alloc, &trial.causes)?;
     json!(in alloc; {
@@ -184,7 +184,7 @@ fn fails_value(alloc: Global, trial: &OwnTrial, error: CelError) -> Result<Value
 /// The object of a trial whose condition is true, after `steps` of at most `bound` steps.
 fn true_value(alloc: Global, trial: &OwnTrial, steps: u64, bound: u64) -> Result<Value, AllocError>
     ensures { IfOk result (λ value. view value
-        ≡ reason_json (told_trial_view trial.now) (ConditionTrue steps bound)) }
+        ≡ reason_json (reported_trial_view trial.now) (ConditionTrue steps bound)) }
 {
     let causes = causes_value(alloc, &trial.causes)?;
     json!(in alloc; {

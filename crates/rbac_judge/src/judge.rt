@@ -175,7 +175,7 @@ fn memory_as_finding(answer: io::Result<Finding>) -> io::Result<Finding>
     ensures kept { IfOk answer (λ finding. result ≡ Ok finding) }
     ensures memory { OnErr answer (IfOk result (λ finding. finding ≡ bare Outcome.Memory)) }
     ensures others { IfErr result (λ e. (answer ≡ Err e) × (error_kind e ≢ ErrorKind.OutOfMemory)) }
-    ensures told { IfErr answer (λ e. error_kind e ≢ ErrorKind.OutOfMemory → result ≡ Err e) }
+    ensures reported { IfErr answer (λ e. error_kind e ≢ ErrorKind.OutOfMemory → result ≡ Err e) }
 {
     match answer {
         Ok(finding) => Ok(finding),
@@ -320,10 +320,10 @@ fn explained(alloc: Global, admitted: &Admitted, request: &Request, policy: &[u8
 {
     let trials = match admitted.trials(request) {
         Ok(trials) => trials,
-        Err(cause) => return Explanation::Untold(cause),
+        Err(cause) => return Explanation::Unavailable(cause),
     };
     match own_trials(alloc, policy, admitted, request, &trials) {
         Ok(own) => Explanation::Trials(own),
-        Err(AllocError) => Explanation::Untold(RunError::Memory),
+        Err(AllocError) => Explanation::Unavailable(RunError::Memory),
     }
 }

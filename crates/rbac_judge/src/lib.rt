@@ -15,8 +15,8 @@ mod outcome;
 mod report;
 
 pub use error_place::place_of_error;
-pub use explain::{Explanation, OwnTrial, untold_text};
+pub use explain::{Explanation, OwnTrial, unavailable_text};
 pub use json::Why;
-pub use notes::{Likeness, Notes};
+pub use notes::{GuessedFormat, Notes};
 pub use outcome::Outcome;
 pub use report::Report;

@@ -19,7 +19,7 @@ use std::fmt;
 #[derive(Drop)]
 pub struct Notes {
     /// What a refused policy file looks like, if it is plainly no filter message.
-    pub policy: Option<Likeness>,
+    pub policy: Option<GuessedFormat>,
     /// The part of the policy file that has the fault.
     pub part: RefusedPart,
     /// Why the facts file has no facts within the limits.
@@ -122,7 +122,7 @@ fn is_of_fields(refusal: Refusal) -> bool {
 
 /// What a file that is no filter message looks like.
 #[derive(Clone, Copy)]
-pub enum Likeness {
+pub enum GuessedFormat {
     /// A JSON text.
     Json,
     /// A YAML or other text.
@@ -141,19 +141,19 @@ pub enum Likeness {
     BareRules,
 }
 
-impl fmt::Display for Likeness {
+impl fmt::Display for GuessedFormat {
     fn fmt<W: fmt::Write>(&self, f: &mut fmt::Formatter<W>) -> fmt::Result {
         f.write_str(match self {
-            Likeness::Json => "JSON, which `tools/policy/policy encode` turns into bytes",
-            Likeness::Yaml => {
+            GuessedFormat::Json => "JSON, which `tools/policy/policy encode` turns into bytes",
+            GuessedFormat::Yaml => {
                 "YAML or other text, which `tools/policy/policy encode` turns into bytes"
             }
-            Likeness::Hex => "hexadecimal text",
-            Likeness::Base64 => "base64 text",
-            Likeness::Gzip => "a gzip file",
-            Likeness::Any => "a google.protobuf.Any",
-            Likeness::TypedExtensionConfig => "an envoy.config.core.v3.TypedExtensionConfig",
-            Likeness::BareRules => "a bare envoy.config.rbac.v3.RBAC",
+            GuessedFormat::Hex => "hexadecimal text",
+            GuessedFormat::Base64 => "base64 text",
+            GuessedFormat::Gzip => "a gzip file",
+            GuessedFormat::Any => "a google.protobuf.Any",
+            GuessedFormat::TypedExtensionConfig => "an envoy.config.core.v3.TypedExtensionConfig",
+            GuessedFormat::BareRules => "a bare envoy.config.rbac.v3.RBAC",
         })
     }
 }
@@ -165,19 +165,19 @@ const TYPE_START: &[u8] = b"type.googleapis.com/";
 const RULES: u32 = 1;
 
 /// What the bytes look like, if they are plainly no filter message. Call it only if the file's own fields may be wrong.
-pub(crate) fn likeness_of(bytes: &[u8]) -> Option<Likeness> {
+pub(crate) fn likeness_of(bytes: &[u8]) -> Option<GuessedFormat> {
     if bytes.starts_with(&[0x1f, 0x8b]) {
-        return Some(Likeness::Gzip);
+        return Some(GuessedFormat::Gzip);
     }
     if begins_as_any(bytes) {
-        return Some(Likeness::Any);
+        return Some(GuessedFormat::Any);
     }
     let fields = first_fields(bytes);
     if fields.has_any {
-        return Some(Likeness::TypedExtensionConfig);
+        return Some(GuessedFormat::TypedExtensionConfig);
     }
     match bytes.first() {
-        Some(0x08 | 0x12) if !fields.has_rules => Some(Likeness::BareRules),
+        Some(0x08 | 0x12) if !fields.has_rules => Some(GuessedFormat::BareRules),
         Some(_) if bytes.iter().all(|&byte| is_printed(byte)) => Some(likeness_of_text(bytes)),
         _ => None,
     }
@@ -221,21 +221,21 @@ fn is_printed(byte: u8) -> bool {
 }
 
 /// What the text looks like.
-fn likeness_of_text(text: &[u8]) -> Likeness {
+fn likeness_of_text(text: &[u8]) -> GuessedFormat {
     if matches!(text.trim_ascii_start().first(), Some(b'{' | b'[')) {
-        return Likeness::Json;
+        return GuessedFormat::Json;
     }
     if text
         .iter()
         .all(|b| b.is_ascii_hexdigit() || b.is_ascii_whitespace())
     {
-        return Likeness::Hex;
+        return GuessedFormat::Hex;
     }
     if text.iter().all(|b| b.is_ascii_alphanumeric()
         || b.is_ascii_whitespace()
         || b"+/=-_".contains(b))
     {
-        return Likeness::Base64;
+        return GuessedFormat::Base64;
     }
-    Likeness::Yaml
+    GuessedFormat::Yaml
 }

@@ -1,8 +1,8 @@
 //! An outcome as it is printed: in words, or as a JSON object.
 ghost use Rattle.std.specs.Prelude.{◌≡◌, IfOk, string_bytes, true};
-ghost use Rattle.rbac_judge.specs.Explain.{told_in, with_trials};
+ghost use Rattle.rbac_judge.specs.Explain.{reported_trials, with_trials};
 ghost use Rattle.rbac_judge.specs.Outcome.{line_of, printed_of};
-ghost use Rattle.rbac_judge.specs.private.Printed.{told_with, unexplained, without_memory};
+ghost use Rattle.rbac_judge.specs.private.Printed.{with_why, unexplained, without_memory};
 
 use crate::explain::{Explanation, push_lines};
 use crate::json::{Why, value_of};
@@ -26,8 +26,8 @@ pub struct Report {
 
 impl Report {
     /// The report, with why its outcome is no verdict.
-    pub fn told(self, why: Why) -> Report
-        ensures { result ≡ told_with why self }
+    pub fn with_why(self, why: Why) -> Report
+        ensures { result ≡ with_why why self }
     {
         Report {
             outcome: self.outcome,
@@ -46,7 +46,7 @@ impl Report {
             outcome: self.outcome,
             name: self.name,
             json: self.json,
-            explanation: self.explanation.less_told(),
+            explanation: self.explanation.without_trials(),
             why: self.why,
         }
     }
@@ -96,7 +96,7 @@ impl Report {
 /// The outcome's line, followed by those of the trials, if there are any to show.
 fn lines(alloc: Global, outcome: Outcome, explanation: &Explanation) -> Result<String, AllocError>
     ensures { IfOk result (λ text.
-        string_bytes text ≡ with_trials (line_of outcome) (told_in explanation.now)) }
+        string_bytes text ≡ with_trials (line_of outcome) (reported_trials explanation.now)) }
 {
     let mut text = format!(in alloc; "{outcome}\n")?;
     if let Explanation::Trials(trials) = explanation {

@@ -23,7 +23,7 @@ use Rattle.rbac_policy.specs.Named.{named_views, policy_view}
 use Rattle.rbac_policy.specs.Verdict.{IsUnconditional, IsVerdict, SomeAsked, condition_holds, policy_matches, sides_match}
 use Rattle.rbac_policy.specs.declared.policy.NamedPolicy.{NamedPolicy}
 use Rattle.rbac_policy.specs.private.Action.{allows}
-use Rattle.rbac_policy.specs.private.Runs.{HaveNoConditions, IsFirst, PassesBound, RunsAs, SomeAsks, Tells}
+use Rattle.rbac_policy.specs.private.Runs.{HaveNoConditions, IsFirst, ExceedsBound, RunsAs, OnePolicyAsks, MatchesByRun}
 use Rattle.rbac_policy.proofs.Besides.{Beside, beside_map, found_itself, name_same, sorted_beside, t_of, there}
 use Rattle.rbac_policy.proofs.First.{Passes, in_rest, least_first, lesser_in_list, lesser_in_map, stands, verdict}
 use Rattle.rbac_policy.proofs.Programs.{not_both, program_unique, run_is_met, within_bound}
@@ -57,22 +57,22 @@ module _ (limits : LimitsValue) (r : RequestValue) (valid : IsRequest r) where
       let both : Formulas → Formulas → Bool = λ x y. some_hold r x && some_hold r y in
       ap₂ both is.permissions is.principals
 
-  condition_told : (b : Bool) (c : Option CelChecked) (q : Option Program)
+  condition_reported : (b : Bool) (c : Option CelChecked) (q : Option Program)
       → MatchOption c (q ≡ None) (λ d. IsSomeAnd q (IsProgramOf limits d)) → GoodCondition c
       → MatchOption q (b ≡ true) (λ program. RunsAs r program b) → b ≡ condition_holds (is_met r) c
-  condition_told b None None is good told = told
-  condition_told b None (Some q) is good told = let clash : Some q ≡ None = is in cc
-  condition_told b (Some c) None is good told = absurd is
-  condition_told b (Some c) (Some q) is good told = run_is_met limits c q good is r valid b told
+  condition_reported b None None is good reported = reported
+  condition_reported b None (Some q) is good reported = let clash : Some q ≡ None = is in cc
+  condition_reported b (Some c) None is good reported = absurd is
+  condition_reported b (Some c) (Some q) is good reported = run_is_met limits c q good is r valid b reported
 
   -- what the runs tell is whether the policy matches
-  told : (p : Policy CelChecked) (v : Policy Program) → Stands v p → (b : Bool) → Tells r v b → b ≡ matches p
-  told p v (is, good) b (inl (fails_to, fails)) =
+  reported : (p : Policy CelChecked) (v : Policy Program) → Stands v p → (b : Bool) → MatchesByRun r v b → b ≡ matches p
+  reported p v (is, good) b (inl (fails_to, fails)) =
       let sides : sides_match r p ≡ false = sym (same_sides p v is) ∙ fails_to in
       fails ∙ sym (ap (λ s. s && condition_holds (is_met r) p.condition) sides)
-  told p v (is, good) b (inr (does, runs)) =
+  reported p v (is, good) b (inr (does, runs)) =
       let sides : sides_match r p ≡ true = sym (same_sides p v is) ∙ does in
-      condition_told b p.condition v.condition is.condition good runs ∙ sym (ap (λ s. s && condition_holds (is_met r) p.condition) sides)
+      condition_reported b p.condition v.condition is.condition good runs ∙ sym (ap (λ s. s && condition_holds (is_met r) p.condition) sides)
 
   -- this holds of the condition's program
   abbrev ItsProgram : (Program → Type 0) → CelChecked → Type 0
@@ -87,11 +87,11 @@ module _ (limits : LimitsValue) (r : RequestValue) (valid : IsRequest r) where
   asks_here P (Some d) (Some q) is good out = (d, refl, good, (q, is, out))
 
   -- no run both tells and passes its bound
-  tells_or_passes : (c : CelChecked) → TakesTooLong limits r c → (p : Policy CelChecked) (v : Policy Program) → Stands v p
-      → (b : Bool) → Tells r v b → sides_match r p ≡ true → p.condition ≡ Some c → ⊥
-  tells_or_passes c (q, of, out) p v (is, good) b (inl (fails_to, fails)) sides at =
+  matches_or_exceeds : (c : CelChecked) → TakesTooLong limits r c → (p : Policy CelChecked) (v : Policy Program) → Stands v p
+      → (b : Bool) → MatchesByRun r v b → sides_match r p ≡ true → p.condition ≡ Some c → ⊥
+  matches_or_exceeds c (q, of, out) p v (is, good) b (inl (fails_to, fails)) sides at =
       let clash : false ≡ true = sym fails_to ∙ same_sides p v is ∙ sides in absurd cc
-  tells_or_passes c (q, of, out) p v (is, good) b (inr (does, runs)) sides at =
+  matches_or_exceeds c (q, of, out) p v (is, good) b (inr (does, runs)) sides at =
       by p.condition v.condition is.condition at runs
     where
       by : (d : Option CelChecked) (x : Option Program) → MatchOption d (x ≡ None) (λ e. IsSomeAnd x (IsProgramOf limits e))
@@ -111,10 +111,10 @@ module _ (limits : LimitsValue) (r : RequestValue) (valid : IsRequest r) where
   first_is i [] ps o beside none = rw beside none
   first_is i (v ∷ vs) ps o (p, others, stand, rest, made) (inl (does, is)) =
       let test : List ℕ × Policy CelChecked → Bool = λ e. matches e.1 in
-      rw made (is ∙ ap (λ b. cond b (Some i) (position_from test (i + 1) others)) (told p v.1 stand true does))
+      rw made (is ∙ ap (λ b. cond b (Some i) (position_from test (i + 1) others)) (reported p v.1 stand true does))
   first_is i (v ∷ vs) ps o (p, others, stand, rest, made) (inr (fails_to, later)) =
       let test : List ℕ × Policy CelChecked → Bool = λ e. matches e.1 in
-      rw made (first_is (i + 1) vs others o rest later ∙ ap (λ b. cond b (Some i) (position_from test (i + 1) others)) (told p v.1 stand false fails_to))
+      rw made (first_is (i + 1) vs others o rest later ∙ ap (λ b. cond b (Some i) (position_from test (i + 1) others)) (reported p v.1 stand false fails_to))
 
   -- the policy of this name is asked for its condition
   record AskedIn (ps : List (List ℕ × Policy CelChecked)) (c : CelChecked) : Type 0 where
@@ -127,7 +127,7 @@ module _ (limits : LimitsValue) (r : RequestValue) (valid : IsRequest r) where
 
   -- so the program is that of a condition that is asked for
   asks_asked : (P : Program → Type 0) (vs : List (List ℕ × Policy Program)) (ps : List (List ℕ × Policy CelChecked)) → T (is_sorted name_cmp ps)
-      → Beside Stands vs ps → SomeAsks P r (map (λ e. e.1) vs)
+      → Beside Stands vs ps → OnePolicyAsks P r (map (λ e. e.1) vs)
       → (c : CelChecked) × AskedIn ps c × HasGoodConstants c.tree × ItsProgram P c
   asks_asked P [] ps sorted beside none = absurd none
   asks_asked P (v ∷ vs) ps sorted (p, others, (is, good), rest, made) (inl (does, out)) =
@@ -151,7 +151,7 @@ module _ (limits : LimitsValue) (r : RequestValue) (valid : IsRequest r) where
         found = found_later name_cmp nat_list_cmp_total name_same (v.0, p) others it.1.name it.1.policy order it.1.found;
         sides = it.1.sides;
         condition = it.1.condition;
-        least = λ other h. it.1.least other (in_rest matches 0 (v.0, p) others order (sym (told p v.1 stand false fails_to)) other h);
+        least = λ other h. it.1.least other (in_rest matches 0 (v.0, p) others order (sym (reported p v.1 stand false fails_to)) other h);
       } in
       (it.0, subst (λ xs. AskedIn xs it.0) (sym made) asked, it.2, it.3)
 
@@ -170,8 +170,8 @@ module _ (limits : LimitsValue) (r : RequestValue) (valid : IsRequest r) where
             let sides : sides_match r p ≡ true = subst (λ x. sides_match r x ≡ true) (sym same) asked.sides in
             let at : p.condition ≡ Some c = subst (λ x. x.condition ≡ Some c) (sym same) asked.condition in
             elim first [
-              | inl (does, is) ↦ tells_or_passes c long p v.1 stand true does sides at
-              | inr (fails_to, later) ↦ tells_or_passes c long p v.1 stand false fails_to sides at
+              | inl (does, is) ↦ matches_or_exceeds c long p v.1 stand true does sides at
+              | inr (fails_to, later) ↦ matches_or_exceeds c long p v.1 stand false fails_to sides at
             ]
         | false ↦ λ apart found. further asked found (λ one next. asked_or_first c long (i + 1) vs others o (both_second _ _ order) rest next one) first
       ] refl asked.found
@@ -190,7 +190,7 @@ module _ (limits : LimitsValue) (r : RequestValue) (valid : IsRequest r) where
           → IsFirst r i (map (λ e. e.1) (v ∷ vs)) o → ⊥
       further asked found again (inl (does, is)) =
           let here : Passes matches ((v.0, p) ∷ others) v.0 =
-          subst (λ y. IsSomeAnd y (λ z. IsTrue (matches z))) (sym (found_itself (v.0, p) others)) (sym (told p v.1 stand true does)) in
+          subst (λ y. IsSomeAnd y (λ z. IsTrue (matches z))) (sym (found_itself (v.0, p) others)) (sym (reported p v.1 stand true does)) in
           let less = above_all name_cmp nat_list_cmp_total name_same v.0 others asked.name asked.policy (both_first _ _ order) found in
           let clash : true ≡ false = sym (ap is_lt less) ∙ asked.least v.0 here in absurd cc
       further asked found again (inr (fails_to, later)) =
@@ -262,14 +262,14 @@ module _ (enforced : Filter Program) (list : List Token) (items : List NamedPoli
         rw admitted.2.enforces.action (verdict (is_met r) r listed.0 order filter listed.2 o
         (first_is limits r valid 0 (named_views list items) listed.0 o listed.1 by_runs))
 
-    asking_one : (P : Program → Type 0) → SomeAsks P r (map (policy_view list) items)
+    asking_one : (P : Program → Type 0) → OnePolicyAsks P r (map (policy_view list) items)
         → (c : CelChecked) × AskedIn limits r valid listed.0 c × HasGoodConstants c.tree × ItsProgram limits r valid P c
     asking_one P asks =
         asks_asked limits r valid P (named_views list items) listed.0 order listed.1
-        (subst (λ xs. SomeAsks P r xs) (sym (views_are list items)) asks)
+        (subst (λ xs. OnePolicyAsks P r xs) (sym (views_are list items)) asks)
 
     -- a program that is asked for is of a condition that the verdict asks for
-    pub asking : (P : Program → Type 0) → SomeAsks P r (map (policy_view list) items)
+    pub asking : (P : Program → Type 0) → OnePolicyAsks P r (map (policy_view list) items)
         → SomeAsked (is_met r) (λ c. (program : Program) × IsProgramOf limits c program × P program) r filter
     asking P asks =
         let it = asking_one P asks in
@@ -284,16 +284,16 @@ module _ (enforced : Filter Program) (list : List Token) (items : List NamedPoli
         )
 
     -- on a request within the limits no run passes its bound
-    pub none_passes : InLimits r limits → SomeAsks (PassesBound r) r (map (policy_view list) items) → ⊥
+    pub none_passes : InLimits r limits → OnePolicyAsks (ExceedsBound r) r (map (policy_view list) items) → ⊥
     none_passes inside passes =
-        let it = asking_one (PassesBound r) passes in
+        let it = asking_one (ExceedsBound r) passes in
         let (q, of, out) = it.3 in
         within_bound limits it.0 q it.2 of r valid inside out
 
     -- where a condition that is asked for takes too long, no first one is told
-    pub asked_is_told : SomeAsked (is_met r) (TakesTooLong limits r) r filter → (o : Option ℕ)
+    pub asked_is_reported : SomeAsked (is_met r) (TakesTooLong limits r) r filter → (o : Option ℕ)
         → IsFirst r 0 (map (policy_view list) items) o → ⊥
-    asked_is_told (c, (name, has, lesser), long) o first =
+    asked_is_reported (c, (name, has, lesser), long) o first =
         let x = there (λ p. IsTrue (sides_match r p) × (p.condition ≡ Some c)) (get filter.policies name) has in
         asked_or_first limits r valid c long 0 (named_views list items) listed.0 o order listed.1
         (subst (λ xs. IsFirst r 0 xs o) (sym (views_are list items)) first)

@@ -10,18 +10,18 @@ use Rattle.rbac_policy.specs.Condition.{Program}
 use Rattle.rbac_policy.specs.Filter.{Policy}
 use Rattle.rbac_policy.specs.Named.{policy_view}
 use Rattle.rbac_policy.specs.declared.policy.NamedPolicy.{NamedPolicy}
-use Rattle.rbac_policy.specs.private.Runs.{Asks, HaveNoConditions, IsFirst, SomeAsks, Tells}
+use Rattle.rbac_policy.specs.private.Runs.{Asks, HaveNoConditions, IsFirst, OnePolicyAsks, MatchesByRun}
 
 module _ (r : RequestValue) where
   -- all told that they do not match
   abbrev pub Failed : List (Policy Program) → Type 0
-  Failed ps = AllByRecursion (λ p. Tells r p false) ps
+  Failed ps = AllByRecursion (λ p. MatchesByRun r p false) ps
 
-  pub failed_push : (ps : List (Policy Program)) (p : Policy Program) → Failed ps → Tells r p false → Failed (ps ++ p ∷ [])
+  pub failed_push : (ps : List (Policy Program)) (p : Policy Program) → Failed ps → MatchesByRun r p false → Failed (ps ++ p ∷ [])
   failed_push [] p failed this = (this, tt)
   failed_push (x ∷ ps) p failed this = (failed.0, failed_push ps p failed.1 this)
 
-  one_first : (ps qs : List (Policy Program)) (p : Policy Program) (i : ℕ) → Failed ps → Tells r p true
+  one_first : (ps qs : List (Policy Program)) (p : Policy Program) (i : ℕ) → Failed ps → MatchesByRun r p true
       → IsFirst r i (ps ++ p ∷ qs) (Some (i + length ps))
   one_first [] qs p i failed this = inl (this, ap Some (add-zero i))
   one_first (x ∷ ps) qs p i failed this =
@@ -33,7 +33,7 @@ module _ (r : RequestValue) where
   none_first (p ∷ ps) i failed = inr (failed.0, none_first ps (i + 1) failed.1)
 
   one_asks : (P : Program → Type 0) (ps qs : List (Policy Program)) (p : Policy Program) → Failed ps → Asks P r p
-      → SomeAsks P r (ps ++ p ∷ qs)
+      → OnePolicyAsks P r (ps ++ p ∷ qs)
   one_asks P [] qs p failed this = inl this
   one_asks P (x ∷ ps) qs p failed this = inr (failed.0, one_asks P ps qs p failed.1 this)
 
@@ -51,13 +51,13 @@ module _ (r : RequestValue) where
         ap (map (policy_view list)) (sym (take-append-drop (i + 1) items) ∙ ap (λ xs. xs ++ drop (i + 1) items) more ∙ append_assoc (take i items) (item ∷ []) (drop (i + 1) items))
         ∙ map-append (policy_view list) (take i items) (item ∷ drop (i + 1) items)
 
-    pub next_failed : Failed (map (policy_view list) (take i items)) → Tells r ((policy_view list) item) false
+    pub next_failed : Failed (map (policy_view list) (take i items)) → MatchesByRun r ((policy_view list) item) false
         → Failed (map (policy_view list) (take (i + 1) items))
     next_failed failed this =
         rw (ap (map (policy_view list)) more ∙ map-append (policy_view list) (take i items) (item ∷ []))
         (failed_push (map (policy_view list) (take i items)) ((policy_view list) item) failed this)
 
-    pub this_first : Failed (map (policy_view list) (take i items)) → Tells r ((policy_view list) item) true
+    pub this_first : Failed (map (policy_view list) (take i items)) → MatchesByRun r ((policy_view list) item) true
         → IsFirst r 0 (map (policy_view list) items) (Some i)
     this_first failed this =
         let count : length (map (policy_view list) (take i items)) ≡ i = length-map (take i items) (policy_view list) ∙ length-take-le i items (omega (arith, within)) in
@@ -65,7 +65,7 @@ module _ (r : RequestValue) where
         (zero-add _ ∙ count) (one_first (map (policy_view list) (take i items)) (map (policy_view list) (drop (i + 1) items)) ((policy_view list) item) 0 failed this))
 
     pub this_asks : (P : Program → Type 0) → Failed (map (policy_view list) (take i items)) → Asks P r ((policy_view list) item)
-        → SomeAsks P r (map (policy_view list) items)
+        → OnePolicyAsks P r (map (policy_view list) items)
     this_asks P failed this =
         rw split (one_asks P (map (policy_view list) (take i items)) (map (policy_view list) (drop (i + 1) items)) ((policy_view list) item) failed this)
 

@@ -15,7 +15,7 @@ use Rattle.rbac_policy.specs.Verdict.{sides_match}
 use Rattle.rbac_policy.specs.declared.policy_index.Need.{Need}
 use Rattle.rbac_policy.specs.declared.policy.NamedPolicy.{NamedPolicy}
 use Rattle.rbac_policy.specs.Named.{policy_view}
-use Rattle.rbac_policy.specs.private.Runs.{Tells}
+use Rattle.rbac_policy.specs.private.Runs.{MatchesByRun}
 use Rattle.rbac_policy.specs.private.PolicyIndex.{AreInOrder, AreNeeded, IsNeeded, IsRuledOut, Meets, method_name, mix, number_from, start_number, value_number, value_of}
 
 same_or_other : (a b : ℕ) → (a ≡ b) ⊎ (a ≢ b)
@@ -110,9 +110,9 @@ policy_at list items i item within is =
     ∙ ap (λ x. Some (policy_view list x)) (sym is)
 
 -- one that is ruled out tells that it does not match
-pub ruled_tells : (r : RequestValue) (list : List Token) (items : List NamedPolicy) (i : ℕ) (item : NamedPolicy) → i < length items → item ≡ get_or items i item
-    → IsRuledOut i r (map (policy_view list) items) → Tells r (policy_view list item) false
-ruled_tells r list items i item within is ruled = inl (ruled (policy_view list item) (policy_at list items i item within is), refl)
+pub ruled_out_matches : (r : RequestValue) (list : List Token) (items : List NamedPolicy) (i : ℕ) (item : NamedPolicy) → i < length items → item ≡ get_or items i item
+    → IsRuledOut i r (map (policy_view list) items) → MatchesByRun r (policy_view list item) false
+ruled_out_matches r list items i item within is ruled = inl (ruled (policy_view list item) (policy_at list items i item within is), refl)
 
 -- what a request does not have that each has which the sides match
 pub not_met : (r : RequestValue) (ps : List (Policy Program)) (needs : List Need) (most : ℕ) (name : List ℕ) (i : ℕ) (need : Need)

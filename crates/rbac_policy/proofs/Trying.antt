@@ -26,7 +26,7 @@ use Rattle.rbac_policy.specs.declared.reason.Reason.{Reason}
 use Rattle.rbac_policy.specs.declared.reason.Reason.TheVariants.{NoPermission, NoPrincipal, Matches, ConditionFalse, ConditionFails, ConditionTrue}
 use Rattle.rbac_policy.specs.declared.trials.Trial.{Trial}
 use Rattle.stack_machine.specs.declared.error.RunError.{RunError}
-use Rattle.rbac_policy.specs.private.Runs.{IsFirst, RunsAs, Tells}
+use Rattle.rbac_policy.specs.private.Runs.{IsFirst, RunsAs, MatchesByRun}
 use Rattle.rbac_policy.specs.private.Trials.{EndsWith, HasRunReason, TakesOf}
 use Rattle.rbac_policy.proofs.Besides.{Beside}
 use Rattle.rbac_policy.proofs.Deciding.{GoodCondition, Stands, listed, order, same_sides, views_are}
@@ -116,43 +116,43 @@ module _ (enforced : Filter Program) (list : List Token) (items : List NamedPoli
 
 module _ (r : RequestValue) where
   -- the policies have their trials, and none matches
-  abbrev pub Untold : ℕ → List (List ℕ × Policy Program) → List Trial → Type 0
-  Untold number [] trials = trials ≡ []
-  Untold number (e ∷ es) [] = ⊥
-  Untold number (e ∷ es) (t ∷ trials) = (t.number ≡ number) × (t.name.now ≡ e.0) × HasRunReason r e.1 t.reason
-      × (is_match t.reason ≡ false) × Untold (number + 1) es trials
+  abbrev pub TriedWithoutMatch : ℕ → List (List ℕ × Policy Program) → List Trial → Type 0
+  TriedWithoutMatch number [] trials = trials ≡ []
+  TriedWithoutMatch number (e ∷ es) [] = ⊥
+  TriedWithoutMatch number (e ∷ es) (t ∷ trials) = (t.number ≡ number) × (t.name.now ≡ e.0) × HasRunReason r e.1 t.reason
+      × (is_match t.reason ≡ false) × TriedWithoutMatch (number + 1) es trials
 
-  pub untold_push : (number : ℕ) (es : List (List ℕ × Policy Program)) (trials : List Trial) (e : List ℕ × Policy Program) (t : Trial)
-      → Untold number es trials → t.number ≡ number + length es → t.name.now ≡ e.0 → HasRunReason r e.1 t.reason
-      → is_match t.reason ≡ false → Untold number (es ++ e ∷ []) (trials ++ t ∷ [])
-  untold_push number [] trials e t none at name has other =
+  pub unmatched_push : (number : ℕ) (es : List (List ℕ × Policy Program)) (trials : List Trial) (e : List ℕ × Policy Program) (t : Trial)
+      → TriedWithoutMatch number es trials → t.number ≡ number + length es → t.name.now ≡ e.0 → HasRunReason r e.1 t.reason
+      → is_match t.reason ≡ false → TriedWithoutMatch number (es ++ e ∷ []) (trials ++ t ∷ [])
+  unmatched_push number [] trials e t none at name has other =
       rw none (at ∙ add-zero number, name, has, other, refl)
-  untold_push number (x ∷ es) [] e t none at name has other = absurd none
-  untold_push number (x ∷ es) (u ∷ trials) e t (a, b, c, d, rest) at name has other =
-      (a, b, c, d, untold_push (number + 1) es trials e t rest (omega (arith, at)) name has other)
+  unmatched_push number (x ∷ es) [] e t none at name has other = absurd none
+  unmatched_push number (x ∷ es) (u ∷ trials) e t (a, b, c, d, rest) at name has other =
+      (a, b, c, d, unmatched_push (number + 1) es trials e t rest (omega (arith, at)) name has other)
 
-  pub untold_match : (number : ℕ) (es more : List (List ℕ × Policy Program)) (trials : List Trial) (e : List ℕ × Policy Program) (t : Trial)
-      → Untold number es trials → t.number ≡ number + length es → t.name.now ≡ e.0 → HasRunReason r e.1 t.reason
+  pub unmatched_match : (number : ℕ) (es more : List (List ℕ × Policy Program)) (trials : List Trial) (e : List ℕ × Policy Program) (t : Trial)
+      → TriedWithoutMatch number es trials → t.number ≡ number + length es → t.name.now ≡ e.0 → HasRunReason r e.1 t.reason
       → is_match t.reason ≡ true → AreTrials (HasRunReason r) number (es ++ e ∷ more) (trials ++ t ∷ [])
-  untold_match number [] more trials e t none at name has matches =
+  unmatched_match number [] more trials e t none at name has matches =
       rw none (at ∙ add-zero number, name, has, rw matches refl)
-  untold_match number (x ∷ es) more [] e t none at name has matches = absurd none
-  untold_match number (x ∷ es) more (u ∷ trials) e t (a, b, c, d, rest) at name has matches =
-      (a, b, c, rw d (untold_match (number + 1) es more trials e t rest (omega (arith, at)) name has matches))
+  unmatched_match number (x ∷ es) more [] e t none at name has matches = absurd none
+  unmatched_match number (x ∷ es) more (u ∷ trials) e t (a, b, c, d, rest) at name has matches =
+      (a, b, c, rw d (unmatched_match (number + 1) es more trials e t rest (omega (arith, at)) name has matches))
 
-  pub untold_all : (number : ℕ) (es : List (List ℕ × Policy Program)) (trials : List Trial) → Untold number es trials
+  pub unmatched_all : (number : ℕ) (es : List (List ℕ × Policy Program)) (trials : List Trial) → TriedWithoutMatch number es trials
       → AreTrials (HasRunReason r) number es trials
-  untold_all number [] trials none = none
-  untold_all number (x ∷ es) [] none = none
-  untold_all number (x ∷ es) (u ∷ trials) (a, b, c, d, rest) = (a, b, c, rw d (untold_all (number + 1) es trials rest))
+  unmatched_all number [] trials none = none
+  unmatched_all number (x ∷ es) [] none = none
+  unmatched_all number (x ∷ es) (u ∷ trials) (a, b, c, d, rest) = (a, b, c, rw d (unmatched_all (number + 1) es trials rest))
 
   -- a reason not to match tells that the policy does not match
-  tells_no : (v : Policy Program) (reason : Reason) → HasRunReason r v reason → is_match reason ≡ false → Tells r v false
-  tells_no v NoPermission h other = inl (ap (λ b. b && some_hold r v.principals) h, refl)
-  tells_no v NoPrincipal h other =
+  unmatched_by_run : (v : Policy Program) (reason : Reason) → HasRunReason r v reason → is_match reason ≡ false → MatchesByRun r v false
+  unmatched_by_run v NoPermission h other = inl (ap (λ b. b && some_hold r v.principals) h, refl)
+  unmatched_by_run v NoPrincipal h other =
       inl (ap (λ b. b && some_hold r v.principals) h.0 ∙ h.1, refl)
-  tells_no v Matches h other = let clash : true ≡ false = other in absurd cc
-  tells_no v ConditionFalse (sides, h) other = inr (sides, by v.condition h)
+  unmatched_by_run v Matches h other = let clash : true ≡ false = other in absurd cc
+  unmatched_by_run v ConditionFalse (sides, h) other = inr (sides, by v.condition h)
     where
       came : (w : CelValue) → w ≢ bool true → false ≡ came_true (Some (value w))
       came (bool true) apart = absurd (apart refl)
@@ -163,24 +163,24 @@ module _ (r : RequestValue) where
           → MatchOption q (false ≡ true) (λ program. RunsAs r program false)
       by None h = absurd h
       by (Some q) (w, apart, (steps, ends, within)) = (value w, steps, ends, within, came w apart)
-  tells_no v (ConditionFails e) (sides, h) other = inr (sides, by v.condition h)
+  unmatched_by_run v (ConditionFails e) (sides, h) other = inr (sides, by v.condition h)
     where
       by : (q : Option Program) → IsSomeAnd q (λ program. IsReasonOf (EndsWith r) (TakesOf r) program (ConditionFails e))
           → MatchOption q (false ≡ true) (λ program. RunsAs r program false)
       by None h = absurd h
       by (Some q) (steps, ends, within) = (fails e, steps, ends, within, refl)
-  tells_no v (ConditionTrue steps bound) h other = let clash : true ≡ false = other in absurd cc
+  unmatched_by_run v (ConditionTrue steps bound) h other = let clash : true ≡ false = other in absurd cc
 
-  pub untold_failed : (number : ℕ) (es : List (List ℕ × Policy Program)) (trials : List Trial) → Untold number es trials
+  pub unmatched_failed : (number : ℕ) (es : List (List ℕ × Policy Program)) (trials : List Trial) → TriedWithoutMatch number es trials
       → Failed r (map (λ e. e.1) es)
-  untold_failed number [] trials none = tt
-  untold_failed number (x ∷ es) [] none = absurd none
-  untold_failed number (x ∷ es) (u ∷ trials) (a, b, c, d, rest) =
-      (tells_no x.1 u.reason c d, untold_failed (number + 1) es trials rest)
+  unmatched_failed number [] trials none = tt
+  unmatched_failed number (x ∷ es) [] none = absurd none
+  unmatched_failed number (x ∷ es) (u ∷ trials) (a, b, c, d, rest) =
+      (unmatched_by_run x.1 u.reason c d, unmatched_failed (number + 1) es trials rest)
 
   -- the policies before the present one, that one, and those after it
   module _ (list : List Token) (items : List NamedPolicy) (i : ℕ) (item : NamedPolicy) (within : i < length items) (is : item ≡ get_or items i item)
-      (trials : List Trial) (before : Untold 0 (named_views list (take i items)) trials) where
+      (trials : List Trial) (before : TriedWithoutMatch 0 (named_views list (take i items)) trials) where
     more : take (i + 1) items ≡ take i items ++ item ∷ []
     more = take_more items i item within ∙ ap (λ x. take i items ++ x ∷ []) (sym is)
 
@@ -197,26 +197,26 @@ module _ (r : RequestValue) where
 
     module _ (t : Trial) (number : t.number ≡ i) (name : t.name.now ≡ string_bytes item.name)
         (has : HasRunReason r ((policy_view list) item) t.reason) where
-      pub next_untold : is_match t.reason ≡ false → Untold 0 (named_views list (take (i + 1) items)) (trials ++ t ∷ [])
-      next_untold other =
-          rw longer (untold_push 0 (named_views list (take i items)) trials ((named_view list) item) t before (number ∙ count) name has other)
+      pub next_unmatched : is_match t.reason ≡ false → TriedWithoutMatch 0 (named_views list (take (i + 1) items)) (trials ++ t ∷ [])
+      next_unmatched other =
+          rw longer (unmatched_push 0 (named_views list (take i items)) trials ((named_view list) item) t before (number ∙ count) name has other)
 
-      pub told_match : is_match t.reason ≡ true → AreTrials (HasRunReason r) 0 (named_views list items) (trials ++ t ∷ [])
-      told_match matches =
-          rw split (untold_match 0 (named_views list (take i items)) (named_views list (drop (i + 1) items)) trials ((named_view list) item) t before (number ∙ count) name has matches)
+      pub reported_match : is_match t.reason ≡ true → AreTrials (HasRunReason r) 0 (named_views list items) (trials ++ t ∷ [])
+      reported_match matches =
+          rw split (unmatched_match 0 (named_views list (take i items)) (named_views list (drop (i + 1) items)) trials ((named_view list) item) t before (number ∙ count) name has matches)
 
   -- the policies that were tried told that they do not match
-  pub tried_failed : (list : List Token) (items : List NamedPolicy) (trials : List Trial) → Untold 0 (named_views list items) trials → Failed r (map (policy_view list) items)
-  tried_failed list items trials before = subst (Failed r) (views_are list items) (untold_failed 0 (named_views list items) trials before)
+  pub tried_failed : (list : List Token) (items : List NamedPolicy) (trials : List Trial) → TriedWithoutMatch 0 (named_views list items) trials → Failed r (map (policy_view list) items)
+  tried_failed list items trials before = subst (Failed r) (views_are list items) (unmatched_failed 0 (named_views list items) trials before)
 
   -- a reason to match tells that the policy matches
-  tells_yes : (v : Policy Program) (reason : Reason) → HasRunReason r v reason → is_match reason ≡ true → Tells r v true
-  tells_yes v NoPermission h matches = let clash : false ≡ true = matches in absurd cc
-  tells_yes v NoPrincipal h matches = let clash : false ≡ true = matches in absurd cc
-  tells_yes v Matches (sides, none) matches = inr (sides, rw none refl)
-  tells_yes v ConditionFalse h matches = let clash : false ≡ true = matches in absurd cc
-  tells_yes v (ConditionFails e) h matches = let clash : false ≡ true = matches in absurd cc
-  tells_yes v (ConditionTrue steps bound) (sides, h) matches = inr (sides, by v.condition h)
+  matched_by_run : (v : Policy Program) (reason : Reason) → HasRunReason r v reason → is_match reason ≡ true → MatchesByRun r v true
+  matched_by_run v NoPermission h matches = let clash : false ≡ true = matches in absurd cc
+  matched_by_run v NoPrincipal h matches = let clash : false ≡ true = matches in absurd cc
+  matched_by_run v Matches (sides, none) matches = inr (sides, rw none refl)
+  matched_by_run v ConditionFalse h matches = let clash : false ≡ true = matches in absurd cc
+  matched_by_run v (ConditionFails e) h matches = let clash : false ≡ true = matches in absurd cc
+  matched_by_run v (ConditionTrue steps bound) (sides, h) matches = inr (sides, by v.condition h)
     where
       by : (q : Option Program) → IsSomeAnd q (λ program. IsReasonOf (EndsWith r) (TakesOf r) program (ConditionTrue steps bound))
           → MatchOption q (true ≡ true) (λ program. RunsAs r program true)
@@ -231,10 +231,10 @@ module _ (r : RequestValue) where
   first_of i (e ∷ es) (t ∷ trials) (at, name, has, next) =
       elim (is_match t.reason) as (λ b. is_match t.reason ≡ b → MatchBool b (trials ≡ []) (AreTrials (HasRunReason r) (i + 1) es trials)
       → (o : Option ℕ) × IsFirst r i (map (λ x. x.1) (e ∷ es)) o) [
-        | true ↦ λ matches last. (Some i, inl (tells_yes e.1 t.reason has matches, refl))
+        | true ↦ λ matches last. (Some i, inl (matched_by_run e.1 t.reason has matches, refl))
         | false ↦ λ other rest.
             let later = first_of (i + 1) es trials rest in
-            (later.0, inr (tells_no e.1 t.reason has other, later.1))
+            (later.0, inr (unmatched_by_run e.1 t.reason has other, later.1))
       ] refl next
 
   pub trials_first : (list : List Token) (items : List NamedPolicy) (trials : List Trial) → AreTrials (HasRunReason r) 0 (named_views list items) trials

@@ -10,7 +10,7 @@ ghost use Rattle.rbac_policy.specs.Condition.{MemoryOrSteps, Program, TakesTooLo
 ghost use Rattle.rbac_policy.specs.Filter.{Filter, Policy};
 ghost use Rattle.rbac_policy.specs.Named.{policy_view};
 ghost use Rattle.rbac_policy.specs.Verdict.{IsUnconditional, IsVerdict, SomeAsked, sides_match};
-ghost use Rattle.rbac_policy.specs.private.Runs.{AnyProgram, Asks, HaveFailed, HaveNoConditions, IsFirst, PassesBound, SomeAsks, Tells};
+ghost use Rattle.rbac_policy.specs.private.Runs.{AnyProgram, Asks, HaveFailed, HaveNoConditions, IsFirst, ExceedsBound, OnePolicyAsks, MatchesByRun};
 ghost use Rattle.rbac_policy.specs.private.PolicyIndex.{IsRuledOut, IsPolicyIndex, AreKeysFor};
 
 use crate::filter::{Admitted, Verdict};
@@ -40,7 +40,7 @@ impl Admitted {
             → IsAdmittedAs (limits_view self.now) filter (filter_view self.now)
             → SomeAsked (is_met request.now) (TakesTooLong (limits_view self.now) request.now)
             request.now filter)) }
-        ensures told { (filter : Filter CelChecked)
+        ensures reported { (filter : Filter CelChecked)
             → IsAdmittedAs (limits_view self.now) filter (filter_view self.now)
             → SomeAsked (is_met request.now) (TakesTooLong (limits_view self.now) request.now)
             request.now filter
@@ -75,10 +75,10 @@ fn first_match(
     ensures found { IfOk result (λ matched.
         IsFirst request.now 0 (map (policy_view list.now) policies.now) matched) }
     ensures always { HaveNoConditions (map (policy_view list.now) policies.now) → IsOk result }
-    ensures asked { IfErr result (λ _. SomeAsks AnyProgram request.now
+    ensures asked { IfErr result (λ _. OnePolicyAsks AnyProgram request.now
         (map (policy_view list.now) policies.now)) }
     ensures fault { IfErr result (MemoryOrSteps
-        (SomeAsks (PassesBound request.now) request.now (map (policy_view list.now) policies.now))) }
+        (OnePolicyAsks (ExceedsBound request.now) request.now (map (policy_view list.now) policies.now))) }
 {
     match policies.first() {
         None => Ok(None),
@@ -112,10 +112,10 @@ fn first_later(
     ensures found { IfOk result (λ matched.
         IsFirst request.now 0 (map (policy_view list.now) policies.now) matched) }
     ensures always { HaveNoConditions (map (policy_view list.now) policies.now) → IsOk result }
-    ensures asked { IfErr result (λ _. SomeAsks AnyProgram request.now
+    ensures asked { IfErr result (λ _. OnePolicyAsks AnyProgram request.now
         (map (policy_view list.now) policies.now)) }
     ensures fault { IfErr result (MemoryOrSteps
-        (SomeAsks (PassesBound request.now) request.now (map (policy_view list.now) policies.now))) }
+        (OnePolicyAsks (ExceedsBound request.now) request.now (map (policy_view list.now) policies.now))) }
 {
     for number in 1..policies.len() {
         let policy = &policies[number];
@@ -149,11 +149,11 @@ fn policy_matches(
     policy: &NamedPolicy,
     request: &Request,
 ) -> Result<bool, RunError>
-    ensures found { IfOk result (Tells request.now (policy_view list.now policy.now)) }
+    ensures found { IfOk result (MatchesByRun request.now (policy_view list.now policy.now)) }
     ensures always { (policy_view list.now policy.now).condition ≡ None → IsOk result }
     ensures asked { IfErr result (λ _. Asks AnyProgram request.now (policy_view list.now policy.now)) }
     ensures fault { IfErr result (MemoryOrSteps
-        (Asks (PassesBound request.now) request.now (policy_view list.now policy.now))) }
+        (Asks (ExceedsBound request.now) request.now (policy_view list.now policy.now))) }
 {
     if !sides_match(list, policy, request) {
         return Ok(false);

@@ -11,7 +11,7 @@ ghost use Rattle.rbac_policy.specs.Filter.{Filter};
 ghost use Rattle.rbac_policy.specs.Named.{named_views, policy_view};
 ghost use Rattle.rbac_policy.specs.Trials.{AreTrials, HasReason, Means, TakesSteps};
 ghost use Rattle.rbac_policy.specs.Verdict.{SomeAsked};
-ghost use Rattle.rbac_policy.specs.private.Runs.{Asks, PassesBound, SomeAsks};
+ghost use Rattle.rbac_policy.specs.private.Runs.{Asks, ExceedsBound, OnePolicyAsks};
 ghost use Rattle.rbac_policy.specs.private.Trials.{HasRunReason};
 
 use crate::filter::Admitted;
@@ -44,7 +44,7 @@ impl Admitted {
             → IsAdmittedAs (limits_view self.now) filter (filter_view self.now)
             → SomeAsked (is_met request.now) (TakesTooLong (limits_view self.now) request.now)
             request.now filter)) }
-        ensures told { (filter : Filter CelChecked)
+        ensures reported { (filter : Filter CelChecked)
             → IsAdmittedAs (limits_view self.now) filter (filter_view self.now)
             → SomeAsked (is_met request.now) (TakesTooLong (limits_view self.now) request.now)
             request.now filter
@@ -68,7 +68,7 @@ fn try_policies<'a>(
     ensures tried { IfOk result (λ trials.
         AreTrials (HasRunReason request.now) 0 (named_views list.now policies.now) trials.items) }
     ensures fault { IfErr result (MemoryOrSteps
-        (SomeAsks (PassesBound request.now) request.now (map (policy_view list.now) policies.now))) }
+        (OnePolicyAsks (ExceedsBound request.now) request.now (map (policy_view list.now) policies.now))) }
 {
     let mut trials = Vec::new(alloc);
     for (number, policy) in policies.iter().enumerate() {
@@ -106,7 +106,7 @@ fn reason_of(
 ) -> Result<Reason, RunError>
     ensures found { IfOk result (HasRunReason request.now (policy_view list.now policy.now)) }
     ensures fault { IfErr result (MemoryOrSteps
-        (Asks (PassesBound request.now) request.now (policy_view list.now policy.now))) }
+        (Asks (ExceedsBound request.now) request.now (policy_view list.now policy.now))) }
 {
     if !any_matches(list, policy.permissions, request) {
         return Ok(Reason::NoPermission);

@@ -13,13 +13,13 @@ use Rattle.ads.specs.declared.client.Client.{Client}
 use Rattle.http_front.specs.Front.{FrontValue}
 use Rattle.proxy_core.specs.Events.{http_bytes, http_closed, http_open, http_output, no_output}
 use Rattle.proxy_core.specs.Step.{OpensFront, nowhere, nobody}
-use Rattle.proxy_core.specs.declared.told.Told.{Told}
+use Rattle.proxy_core.specs.declared.answered_ask.AnsweredAsk.{AnsweredAsk}
 use Rattle.rbac_serve.specs.Tables.{FitsFor, WorkerValue, new_worker, nothing_waits, sessions_of, state_of, waiting_at, waiting_of}
-use Rattle.rbac_serve.specs.Turns.{IsReached, TellsTurn, TurnDoes, Works, answer_sent}
-use Rattle.rbac_serve.specs.declared.guest.Guest.{Guest}
-use Rattle.rbac_serve.specs.private.Guests.{AreHeard, free_guest, free_guests}
+use Rattle.rbac_serve.specs.Turns.{IsReached, AnswersTurn, TurnDoes, Works, answer_sent}
+use Rattle.rbac_serve.specs.declared.connection.ConnectionState.{ConnectionState}
+use Rattle.rbac_serve.specs.private.ConnectionStates.{AnswersConnection, free_connection, free_connections}
 use Rattle.rbac_serve.proofs.PlaceLemmas.{fits_free, fits_put_is, free_sessions, free_waits, none_past, now_there, put_in, put_twice, session_at, session_back, state_past, state_put, waits_at, waits_past}
-use Rattle.rbac_serve.proofs.Turning.{close_works, heard_at, heard_turn, open_works, start_reached, works_more}
+use Rattle.rbac_serve.proofs.Turning.{close_works, answered_at, answered_turn, open_works, start_reached, works_more}
 
 abbrev made : ClientValue → List (Option FrontValue) → List (List ℕ) → List ℕ → WorkerValue
 made client conns answers requests =
@@ -27,24 +27,24 @@ made client conns answers requests =
 
 -- ---- a new worker
 
-pub new_state : (client : Client) (c : ConfigValue) (n : ℕ) (gs : List Guest) (requests : List ℕ)
-    → client_view client ≡ new_client c → gs ≡ free_guests n → requests ≡ []
+pub new_state : (client : Client) (c : ConfigValue) (n : ℕ) (gs : List ConnectionState) (requests : List ℕ)
+    → client_view client ≡ new_client c → gs ≡ free_connections n → requests ≡ []
     → state_of client gs requests ≡ new_worker n c
 new_state client c n gs requests is places none =
     ap (λ (it : ClientValue). made it (sessions_of gs) (waiting_of gs) requests) is
-    ∙ ap (λ (xs : List Guest). made (new_client c) (sessions_of xs) (waiting_of xs) requests) places
-    ∙ ap (λ (l : List (Option FrontValue)). made (new_client c) l (waiting_of (free_guests n)) requests) (free_sessions n)
+    ∙ ap (λ (xs : List ConnectionState). made (new_client c) (sessions_of xs) (waiting_of xs) requests) places
+    ∙ ap (λ (l : List (Option FrontValue)). made (new_client c) l (waiting_of (free_connections n)) requests) (free_sessions n)
     ∙ ap (λ (l : List (List ℕ)). made (new_client c) (nobody n) l requests) (free_waits n)
     ∙ ap (made (new_client c) (nobody n) (nothing_waits n)) none
 
-pub new_fits : (client : Client) (n : ℕ) (gs : List Guest) → gs ≡ free_guests n
+pub new_fits : (client : Client) (n : ℕ) (gs : List ConnectionState) → gs ≡ free_connections n
     → ∥ AllByRecursion (FitsFor (client_view client).config.limits) (sessions_of gs) ∥₁
 new_fits client n gs places =
-    subst (λ (xs : List Guest). ∥ AllByRecursion (FitsFor (client_view client).config.limits) (sessions_of xs) ∥₁)
+    subst (λ (xs : List ConnectionState). ∥ AllByRecursion (FitsFor (client_view client).config.limits) (sessions_of xs) ∥₁)
     (sym places) (merely (fits_free (client_view client).config.limits n))
 
-pub new_reached : (client : Client) (c : ConfigValue) (n : ℕ) (gs : List Guest) (requests : List ℕ)
-    → client_view client ≡ new_client c → gs ≡ free_guests n → requests ≡ []
+pub new_reached : (client : Client) (c : ConfigValue) (n : ℕ) (gs : List ConnectionState) (requests : List ℕ)
+    → client_view client ≡ new_client c → gs ≡ free_connections n → requests ≡ []
     → ∥ IsReached (state_of client gs requests) ∥₁
 new_reached client c n gs requests is places none =
     subst (λ (w : WorkerValue). ∥ IsReached w ∥₁) (sym (new_state client c n gs requests is places none))
@@ -52,13 +52,13 @@ new_reached client c n gs requests is places none =
 
 -- ---- a call that changed nothing
 
-pub same_fits : (old new : Client) (gs : List Guest) → client_view new ≡ client_view old
+pub same_fits : (old new : Client) (gs : List ConnectionState) → client_view new ≡ client_view old
     → ∥ AllByRecursion (FitsFor (client_view old).config.limits) (sessions_of gs) ∥₁
     → ∥ AllByRecursion (FitsFor (client_view new).config.limits) (sessions_of gs) ∥₁
 same_fits old new gs same fits =
     subst (λ (c : ClientValue). ∥ AllByRecursion (FitsFor c.config.limits) (sessions_of gs) ∥₁) (sym same) fits
 
-pub same_reached : (old new : Client) (gs : List Guest) (requests : List ℕ) → client_view new ≡ client_view old
+pub same_reached : (old new : Client) (gs : List ConnectionState) (requests : List ℕ) → client_view new ≡ client_view old
     → ∥ IsReached (state_of old gs requests) ∥₁ → ∥ IsReached (state_of new gs requests) ∥₁
 same_reached old new gs requests same reached =
     subst (λ (c : ClientValue). ∥ IsReached (made c (sessions_of gs) (waiting_of gs) requests) ∥₁) (sym same) reached
@@ -66,29 +66,29 @@ same_reached old new gs requests same reached =
 -- ---- the events of a connection
 
 -- a call of `is_none` tells whether there is none
-pub none_told : (front : Option FrontValue) (none : Bool) → is_some front ≡ not none → none ≡ is_none front
-none_told None true is = refl
-none_told None false is = absurd cc
-none_told (Some f) true is = absurd cc
-none_told (Some f) false is = refl
+pub none_reported : (front : Option FrontValue) (none : Bool) → is_some front ≡ not none → none ≡ is_none front
+none_reported None true is = refl
+none_reported None false is = absurd cc
+none_reported (Some f) true is = absurd cc
+none_reported (Some f) false is = refl
 
 -- a writer that took no bytes
 pub nothing_sent : (out : Option (List ℕ)) → Appends out out []
 nothing_sent None = tt
 nothing_sent (Some xs) = sym (append-nil xs)
 
-module _ (client : Client) (requests : List ℕ) (gs : List Guest) (k : ℕ) where
+module _ (client : Client) (requests : List ℕ) (gs : List ConnectionState) (k : ℕ) where
   abbrev old : WorkerValue
   old = state_of client gs requests
 
   in_conns : k < length gs → k < length old.core.conns
-  in_conns within = rw (length-map gs (λ (g : Guest). g.session)) within
+  in_conns within = rw (length-map gs (λ (g : ConnectionState). g.session)) within
 
   -- ---- a place that is not there
 
   module _ (far : length gs ≤ k) where
     far_conns : length old.core.conns ≤ k
-    far_conns = rw (length-map gs (λ (g : Guest). g.session)) far
+    far_conns = rw (length-map gs (λ (g : ConnectionState). g.session)) far
 
     same_answers : old.answers ≡ set old.answers k []
     same_answers = ap (λ (w : WorkerValue). w.answers) (state_past client requests gs k far)
@@ -103,8 +103,8 @@ module _ (client : Client) (requests : List ℕ) (gs : List Guest) (k : ℕ) whe
       requests = refl;
     }
 
-    pub bytes_past : (bytes : List ℕ) (told : List Told) → told ≡ [] → TellsTurn old k bytes told false old
-    bytes_past bytes told nothing = rw nothing (
+    pub bytes_past : (bytes : List ℕ) (answered_asks : List AnsweredAsk) → answered_asks ≡ [] → AnswersTurn old k bytes answered_asks false old
+    bytes_past bytes answered_asks nothing = rw nothing (
       [],
       record {
         steps = rw (none_past gs k far) (refl, refl);
@@ -123,7 +123,7 @@ module _ (client : Client) (requests : List ℕ) (gs : List Guest) (k : ℕ) whe
 
   -- ---- a place that is there
 
-  pub open_done : (new : List Guest) (facts : Facts) (front : Option FrontValue) (closes : Bool) → k < length gs
+  pub open_done : (new : List ConnectionState) (facts : Facts) (front : Option FrontValue) (closes : Bool) → k < length gs
       → new ≡ set gs k (record { session = front; outbox = [] })
       → OpensFront (client_view client).config.limits facts front → closes ≡ is_none front
       → Works old (http_open k facts) (http_output [] closes) (state_of client new requests)
@@ -133,45 +133,45 @@ module _ (client : Client) (requests : List ℕ) (gs : List Guest) (k : ℕ) whe
       (subst (λ (b : Bool). Works old (http_open k facts) (http_output [] b) (put_in old k front [])) (sym is)
       (open_works old k facts front (in_conns within) opens))
 
-  pub close_done : (new : List Guest) → new ≡ set gs k free_guest
+  pub close_done : (new : List ConnectionState) → new ≡ set gs k free_connection
       → Works old (http_closed k) no_output (state_of client new requests)
   close_done new put =
       subst (λ (w : WorkerValue). Works old (http_closed k) no_output w)
-      (sym (state_put client requests gs new k free_guest put)) (close_works old k)
+      (sym (state_put client requests gs new k free_connection put)) (close_works old k)
 
-  pub close_reached : (new : List Guest) → new ≡ set gs k free_guest → ∥ IsReached old ∥₁
+  pub close_reached : (new : List ConnectionState) → new ≡ set gs k free_connection → ∥ IsReached old ∥₁
       → ∥ IsReached (state_of client new requests) ∥₁
   close_reached new put reached =
       works_more (http_closed k) no_output old (state_of client new requests) (close_done new put) reached
 
-  module _ (mid new : List Guest) (g h : Guest) (there : slice_get gs k ≡ Some g) (taken : mid ≡ set gs k free_guest)
+  module _ (mid new : List ConnectionState) (g h : ConnectionState) (there : slice_get gs k ≡ Some g) (taken : mid ≡ set gs k free_connection)
       (put : new ≡ set mid k h) where
     put_whole : new ≡ set gs k h
-    put_whole = put_twice gs mid new k free_guest h taken put
+    put_whole = put_twice gs mid new k free_connection h taken put
 
     pub put_fits : FitsFor (client_view client).config.limits h.session
         → ∥ AllByRecursion (FitsFor (client_view client).config.limits) (sessions_of gs) ∥₁
         → ∥ AllByRecursion (FitsFor (client_view client).config.limits) (sessions_of new) ∥₁
     put_fits fits all = fits_put_is (client_view client).config.limits gs new k h put_whole fits all
 
-    heard_state : (http : List ℕ) → h.outbox ≡ g.outbox ++ http
-        → state_of client new requests ≡ heard_at old k http h.session
-    heard_state http waits =
+    answered_state : (http : List ℕ) → h.outbox ≡ g.outbox ++ http
+        → state_of client new requests ≡ answered_at old k http h.session
+    answered_state http waits =
         state_put client requests gs new k h put_whole
         ∙ ap (λ (l : List ℕ). put_in old k h.session l)
         (waits ∙ ap (λ (l : List ℕ). l ++ http) (sym (waits_at gs k g there)))
 
-    pub bytes_done : (bytes : List ℕ) (told : List Told) (http : List ℕ) (closes : Bool)
-        → AreHeard g.session (client_view client).accepted bytes told http h.session closes
-        → h.outbox ≡ g.outbox ++ http → TellsTurn old k bytes told closes (state_of client new requests)
-    bytes_done bytes told http closes heard waits =
-        subst (λ (w : WorkerValue). TellsTurn old k bytes told closes w) (sym (heard_state http waits))
-        (heard_turn g.session old k bytes told http h.session closes (session_at gs k g there) heard)
+    pub bytes_done : (bytes : List ℕ) (answered_asks : List AnsweredAsk) (http : List ℕ) (closes : Bool)
+        → AnswersConnection g.session (client_view client).accepted bytes answered_asks http h.session closes
+        → h.outbox ≡ g.outbox ++ http → AnswersTurn old k bytes answered_asks closes (state_of client new requests)
+    bytes_done bytes answered_asks http closes answer_connection waits =
+        subst (λ (w : WorkerValue). AnswersTurn old k bytes answered_asks closes w) (sym (answered_state http waits))
+        (answered_turn g.session old k bytes answered_asks http h.session closes (session_at gs k g there) answer_connection)
 
-    pub bytes_reached : (bytes : List ℕ) (told : List Told) (closes : Bool)
-        → TellsTurn old k bytes told closes (state_of client new requests) → ∥ IsReached old ∥₁
+    pub bytes_reached : (bytes : List ℕ) (answered_asks : List AnsweredAsk) (closes : Bool)
+        → AnswersTurn old k bytes answered_asks closes (state_of client new requests) → ∥ IsReached old ∥₁
         → ∥ IsReached (state_of client new requests) ∥₁
-    bytes_reached bytes told closes (http, works, tells) reached =
+    bytes_reached bytes answered_asks closes (http, works, reports) reached =
         works_more (http_bytes k bytes) (http_output http closes) old (state_of client new requests) works reached
 
     same_sessions : h.session ≡ g.session → set (sessions_of gs) k h.session ≡ sessions_of gs

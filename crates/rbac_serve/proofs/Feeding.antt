@@ -7,7 +7,7 @@ use Rattle.std.proofs.lemmas.List.{length-take-le}
 use Rattle.ads.specs.Answer.{Accepted, first_request}
 use Rattle.ads.specs.Client.{AreAnswered, ClientValue, CompletesOne, Feeds, FeedsBy, IsFrameThen, stream_down, stream_up}
 use Rattle.ads.specs.Config.{ConfigValue}
-use Rattle.ads.specs.Judgements.{TellsBy}
+use Rattle.ads.specs.Judgements.{ReportsJudgementsBy}
 use Rattle.ads.specs.declared.ended.Ended.{Ended}
 use Rattle.ads.specs.declared.judgement.Judgement.{Judgement}
 use Rattle.http_front.specs.Front.{FrontValue}
@@ -132,7 +132,7 @@ none_up (Some rest) down = absurd (true≢false down)
 pub judges_up : (old : WorkerValue) (bytes : List ℕ) (count : ℕ) (js : List Judgement) (ends : Option Ended)
     (new : WorkerValue) (stream : Option (List ℕ)) → old.requests ≡ [] → old.core.client.stream ≡ stream
     → is_some stream ≡ true
-    → TellsBy stream old.core.client (take count bytes) new.requests js ends new.core.client
+    → ReportsJudgementsBy stream old.core.client (take count bytes) new.requests js ends new.core.client
     → JudgesTurn old bytes count js ends new
-judges_up old bytes count js ends new None none is up told = absurd (true≢false (sym up))
-judges_up old bytes count js ends new (Some rest) none is up told = judges rest none is told
+judges_up old bytes count js ends new None none is up reported = absurd (true≢false (sym up))
+judges_up old bytes count js ends new (Some rest) none is up reported = judges rest none is reported

@@ -9,13 +9,13 @@ use Rattle.ads.specs.Client.{ClientValue, FeedsBy}
 use Rattle.http_front.specs.Front.{FrontValue}
 use Rattle.proxy_core.specs.Events.{EventValue, ads_up, ads_bytes, ads_lost, http_open, http_bytes, http_closed, OutputValue, http_output, no_output}
 use Rattle.proxy_core.specs.Step.{CallsDo, EventCall, answered, no_memory, OpensAt, OpensFront, in_place, nowhere, ProxyValue, StepsBy, TakesAds, TakesHttp, front_at, front_in, with_client, with_conn}
-use Rattle.proxy_core.specs.declared.told.Told.{Told}
-use Rattle.proxy_core.proofs.Heard.{tells_takes}
+use Rattle.proxy_core.specs.declared.answered_ask.AnsweredAsk.{AnsweredAsk}
+use Rattle.proxy_core.proofs.ConnectionResult.{answers_takes}
 use Rattle.proxy_core.proofs.Places.{nobody_length}
 use Rattle.proxy_core.proofs.Tables.{bytes_step, close_step, open_step}
 use Rattle.rbac_serve.specs.Tables.{WorkerValue, closed_at, new_worker, waiting_at}
-use Rattle.rbac_serve.specs.Turns.{IsReached, TellsTurn, Turn, called, answer_sent, request_sent, TurnDoes, TurnsDo, Works, calls_of}
-use Rattle.rbac_serve.specs.private.Guests.{AreHeard}
+use Rattle.rbac_serve.specs.Turns.{IsReached, AnswersTurn, Turn, called, answer_sent, request_sent, TurnDoes, TurnsDo, Works, calls_of}
+use Rattle.rbac_serve.specs.private.ConnectionStates.{AnswersConnection}
 use Rattle.rbac_serve.proofs.PlaceLemmas.{put_in}
 
 -- ---- what stays
@@ -131,14 +131,14 @@ nothing_put (Some f ∷ xs) zero none = absurd cc
 nothing_put (x ∷ xs) (suc k) none = ap (λ (ys : List (Option FrontValue)). x ∷ ys) (nothing_put xs k none)
 
 -- a worker once the connection in place `k` delivered bytes that were answered so
-abbrev pub heard_at : WorkerValue → ℕ → List ℕ → Option FrontValue → WorkerValue
-heard_at old k http after = put_in old k after (waiting_at k old.answers ++ http)
+abbrev pub answered_at : WorkerValue → ℕ → List ℕ → Option FrontValue → WorkerValue
+answered_at old k http after = put_in old k after (waiting_at k old.answers ++ http)
 
-pub heard_turn : (session : Option FrontValue) (old : WorkerValue) (k : ℕ) (bytes : List ℕ) (told : List Told)
+pub answered_turn : (session : Option FrontValue) (old : WorkerValue) (k : ℕ) (bytes : List ℕ) (answered_asks : List AnsweredAsk)
     (http : List ℕ) (after : Option FrontValue) (closes : Bool) → front_at old.core k ≡ session
-    → AreHeard session old.core.client.accepted bytes told http after closes
-    → TellsTurn old k bytes told closes (heard_at old k http after)
-heard_turn None old k bytes told http after closes is (nothing, none, gone, stays) =
+    → AnswersConnection session old.core.client.accepted bytes answered_asks http after closes
+    → AnswersTurn old k bytes answered_asks closes (answered_at old k http after)
+answered_turn None old k bytes answered_asks http after closes is (nothing, none, gone, stays) =
     rw (none, gone, stays) (
       [],
       record {
@@ -152,16 +152,16 @@ heard_turn None old k bytes told http after closes is (nothing, none, gone, stay
       },
       rw is (nothing, refl),
     )
-heard_turn (Some front) old k bytes told http after closes is (tells, stays) =
+answered_turn (Some front) old k bytes answered_asks http after closes is (reports, stays) =
     rw stays (
       http,
       record {
         steps = bytes_step old.core k front bytes http after is
-            (tells_takes old.core.client.accepted front bytes told http after tells);
+            (answers_takes old.core.client.accepted front bytes answered_asks http after reports);
         answers = refl;
         requests = refl;
       },
-      rw is (after, tells),
+      rw is (after, reports),
     )
 
 -- ---- the calls of turns

@@ -7,7 +7,7 @@ use Rattle.ads.specs.declared.client.Client.{Client}
 use Rattle.http_front.specs.Front.{FrontValue}
 use Rattle.http_front.specs.Heads.{reading}
 use Rattle.proxy_core.specs.Step.{ProxyValue, new_with, with_conn}
-use Rattle.rbac_serve.specs.declared.guest.Guest.{Guest}
+use Rattle.rbac_serve.specs.declared.connection.ConnectionState.{ConnectionState}
 
 -- a worker: its core, the answers that wait for the connection in each place, and the requests that wait for the update
 -- stream
@@ -40,18 +40,18 @@ closed_at k w =
     record { core = with_conn w.core k None; answers = set w.answers k []; requests = w.requests }
 
 -- the connections, by place
-abbrev pub sessions_of : List Guest → List (Option FrontValue)
-sessions_of guests = map (λ g. g.session) guests
+abbrev pub sessions_of : List ConnectionState → List (Option FrontValue)
+sessions_of connections = map (λ g. g.session) connections
 
 -- the answers that wait, by place
-abbrev pub waiting_of : List Guest → List (List ℕ)
-waiting_of guests = map (λ g. g.outbox) guests
+abbrev pub waiting_of : List ConnectionState → List (List ℕ)
+waiting_of connections = map (λ g. g.outbox) connections
 
 -- a worker of these parts
-abbrev pub state_of : Client → List Guest → List ℕ → WorkerValue
-state_of client guests requests = record {
-  core = record { client = client_view client; conns = sessions_of guests };
-  answers = waiting_of guests;
+abbrev pub state_of : Client → List ConnectionState → List ℕ → WorkerValue
+state_of client connections requests = record {
+  core = record { client = client_view client; conns = sessions_of connections };
+  answers = waiting_of connections;
   requests = requests;
 }
 

@@ -3,13 +3,13 @@ use Rattle.std.specs.Prelude.{◌≡◌, ◌≢◌, ◌<◌, ◌≤◌, ◌⊎�
 use Rattle.xds_wire.specs.Discovery.{RequestMessage}
 use Rattle.ads.specs.Answer.{Accepted}
 use Rattle.ads.specs.Client.{IsFrameThen}
-use Rattle.ads.specs.Judgements.{TellsStream}
+use Rattle.ads.specs.Judgements.{ReportsJudgements}
 use Rattle.ads.specs.declared.ended.Ended.{Ended}
 use Rattle.ads.specs.declared.judgement.Judgement.{Judgement}
 use Rattle.http_front.specs.Front.{FrontValue}
 use Rattle.proxy_core.specs.Events.{EventValue, ads_up, ads_bytes, ads_lost, http_open, http_bytes, http_closed, OutputValue, ads_output, http_output}
-use Rattle.proxy_core.specs.Step.{EventCall, answered, no_memory, StepsBy, TellsBytes, front_at}
-use Rattle.proxy_core.specs.declared.told.Told.{Told}
+use Rattle.proxy_core.specs.Step.{EventCall, answered, no_memory, StepsBy, AnswersBytes, front_at}
+use Rattle.proxy_core.specs.declared.answered_ask.AnsweredAsk.{AnsweredAsk}
 use Rattle.rbac_serve.specs.Tables.{WorkerValue, new_worker, waiting_at}
 
 -- the answers that wait after an event with this output
@@ -68,15 +68,15 @@ calls_of (answer_sent k bytes ∷ turns) = calls_of turns
 calls_of (request_sent bytes ∷ turns) = calls_of turns
 
 -- the asks in the bytes of a connection with their answers, and these as bytes: none if no connection is open
-abbrev pub TellsAt : Option FrontValue → Accepted → List ℕ → List Told → List ℕ → Type 0
-TellsAt None accepted bytes told http = (told ≡ []) × (http ≡ [])
-TellsAt (Some front) accepted bytes told http =
-    (after : Option FrontValue) × TellsBytes accepted front bytes told http after
+abbrev pub AnswersAt : Option FrontValue → Accepted → List ℕ → List AnsweredAsk → List ℕ → Type 0
+AnswersAt None accepted bytes answered_asks http = (answered_asks ≡ []) × (http ≡ [])
+AnswersAt (Some front) accepted bytes answered_asks http =
+    (after : Option FrontValue) × AnswersBytes accepted front bytes answered_asks http after
 
 -- bytes of the connection in place `k`: the core's step, and what was asked and answered in it
-abbrev pub TellsTurn : WorkerValue → ℕ → List ℕ → List Told → Bool → WorkerValue → Type 0
-TellsTurn old k bytes told closes new = (http : List ℕ) × Works old (http_bytes k bytes) (http_output http closes) new
-    × TellsAt (front_at old.core k) old.core.client.accepted bytes told http
+abbrev pub AnswersTurn : WorkerValue → ℕ → List ℕ → List AnsweredAsk → Bool → WorkerValue → Type 0
+AnswersTurn old k bytes answered_asks closes new = (http : List ℕ) × Works old (http_bytes k bytes) (http_output http closes) new
+    × AnswersAt (front_at old.core k) old.core.client.accepted bytes answered_asks http
 
 -- the bytes are the frame of one request, or there are none
 abbrev pub IsOneRequest : List ℕ → Type 0
@@ -98,7 +98,7 @@ pub data JudgesTurn (old : WorkerValue) (bytes : List ℕ) (count : ℕ) (judgem
   no_stream : old.requests ≡ [] → old.core.client.stream ≡ None → judgements ≡ [] → ends ≡ None
       → JudgesTurn old bytes count judgements ends new
   judges : (rest : List ℕ) → old.requests ≡ [] → old.core.client.stream ≡ Some rest
-      → TellsStream old.core.client rest (take count bytes) new.requests judgements ends new.core.client
+      → ReportsJudgements old.core.client rest (take count bytes) new.requests judgements ends new.core.client
       → JudgesTurn old bytes count judgements ends new
 
 -- ---- what was answered and what was sent

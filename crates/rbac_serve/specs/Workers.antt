@@ -4,4 +4,4 @@ use Rattle.rbac_serve.specs.declared.worker.Worker.{Worker}
 
 -- the worker that a `Worker` means
 abbrev pub worker_view : Worker → WorkerValue
-worker_view w = state_of w.client w.guests.items w.requests
+worker_view w = state_of w.client w.connections.items w.requests

@@ -7,12 +7,12 @@ ghost use Rattle.ads.specs.Ends.{client_view};
 ghost use Rattle.proxy_core.specs.Events.{ads_bytes, ads_lost, ads_output, ads_up, http_closed, http_open, http_output, no_output};
 ghost use Rattle.proxy_core.specs.Step.{front_at};
 ghost use Rattle.rbac_serve.specs.Tables.{IsFresh, closed_at, new_worker, waiting_at};
-ghost use Rattle.rbac_serve.specs.Turns.{FeedsTurn, JudgesTurn, TellsTurn, TurnDoes, Works, answer_sent, request_sent};
+ghost use Rattle.rbac_serve.specs.Turns.{FeedsTurn, JudgesTurn, AnswersTurn, TurnDoes, Works, answer_sent, request_sent};
 ghost use Rattle.rbac_serve.specs.Workers.{worker_view};
 
-use crate::guest::Guest;
+use crate::connection::ConnectionState;
 use crate::outbox::{Outbox, Sent};
-use crate::places::{heard, new_guest, new_guests, put_guest};
+use crate::places::{answer_connection, new_connection, new_connections, put_connection};
 use crate::results::{Answered, Fed};
 use crate::worker::Worker;
 use ads::{Client, Config};
@@ -30,7 +30,7 @@ impl Worker {
         Ok(Worker {
             alloc,
             client,
-            guests: new_guests(alloc, places)?,
+            connections: new_connections(alloc, places)?,
             requests: Outbox::new(alloc),
         })
     }
@@ -46,15 +46,15 @@ impl Worker {
     pub fn places(&self) -> usize
         ensures { result ≡ length (worker_view self.now).core.conns }
     {
-        self.guests.len()
+        self.connections.len()
     }
 
     /// How many bytes wait for the connection in place `k`; none if there is no such place.
     pub fn waiting(&self, k: usize) -> usize
         ensures { result ≡ length (waiting_at k (worker_view self.now).answers) }
     {
-        match self.guests.get(k) {
-            Some(guest) => guest.outbox.len(),
+        match self.connections.get(k) {
+            Some(connection) => connection.outbox.len(),
             None => 0,
         }
     }
@@ -64,8 +64,8 @@ impl Worker {
     pub fn is_fresh(&self, k: usize) -> bool
         ensures { IsTrue result ↔ IsFresh (front_at (worker_view self.now).core k) }
     {
-        match self.guests.get(k) {
-            Some(guest) => match &guest.session {
+        match self.connections.get(k) {
+            Some(connection) => match &connection.session {
                 Some(session) => session.is_fresh(),
                 None => false,
             },
@@ -95,35 +95,40 @@ impl Worker {
             (http_output [] closes) (worker_view self.new)) }
         ensures fault { OnErr result (worker_view self.new ≡ worker_view self.old) }
     {
-        if k >= self.guests.len() {
+        if k >= self.connections.len() {
             return Ok(false);
         }
         let session = Session::open(self.alloc, &self.client, conn)?;
         let closes = session.is_none();
-        let guest = Guest {
+        let connection = ConnectionState {
             session,
             outbox: Outbox::new(self.alloc),
         };
-        let _closed = put_guest(&mut self.guests, k, guest);
+        let _closed = put_connection(&mut self.connections, k, connection);
         Ok(closes)
     }
 
     /// The connection in place `k` delivers bytes. The answers to the requests that they complete are put after those
     /// that wait. After an error, which is out of memory, the connection is closed and nothing waits for it.
     pub fn bytes(&mut self, k: usize, bytes: &[u8]) -> Result<Answered, AllocError>
-        ensures found { IfOk result (λ r. TellsTurn (worker_view self.old) k bytes.now r.told.items r.closes
+        ensures found { IfOk result (λ r. AnswersTurn (worker_view self.old) k bytes.now r.answered_asks.items r.closes
             (worker_view self.new)) }
         ensures fault { OnErr result (worker_view self.new ≡ closed_at k (worker_view self.old)) }
     {
-        if k >= self.guests.len() {
+        if k >= self.connections.len() {
             return Ok(Answered {
-                told: Vec::new(self.alloc),
+                answered_asks: Vec::new(self.alloc),
                 closes: false,
             });
         }
-        let guest = put_guest(&mut self.guests, k, new_guest(self.alloc));
-        let (guest, answered) = heard(self.alloc, &self.client, guest, bytes)?;
-        let _free = put_guest(&mut self.guests, k, guest);
+        let connection = put_connection(&mut self.connections, k, new_connection(self.alloc));
+        let (connection, answered) = answer_connection(
+            self.alloc,
+            &self.client,
+            connection,
+            bytes,
+        )?;
+        let _free = put_connection(&mut self.connections, k, connection);
         Ok(answered)
     }
 
@@ -131,10 +136,10 @@ impl Worker {
     pub fn close(&mut self, k: usize)
         ensures { Works (worker_view self.old) (http_closed k) no_output (worker_view self.new) }
     {
-        if k >= self.guests.len() {
+        if k >= self.connections.len() {
             return;
         }
-        let _closed = put_guest(&mut self.guests, k, new_guest(self.alloc));
+        let _closed = put_connection(&mut self.connections, k, new_connection(self.alloc));
     }
 
     /// The update stream comes up. If one is up, it is lost first.
@@ -196,15 +201,19 @@ impl Worker {
             × TurnDoes (worker_view self.old) (answer_sent k sent) (worker_view self.new) }
         ensures all { (result ≡ Sent.All) ↔ (waiting_at k (worker_view self.new).answers ≡ []) }
     {
-        if k >= self.guests.len() {
+        if k >= self.connections.len() {
             return Sent::All;
         }
-        let Guest {
+        let ConnectionState {
             session,
             mut outbox,
-        } = put_guest(&mut self.guests, k, new_guest(self.alloc));
+        } = put_connection(&mut self.connections, k, new_connection(self.alloc));
         let sent = outbox.send(stream);
-        let _free = put_guest(&mut self.guests, k, Guest { session, outbox });
+        let _free = put_connection(
+            &mut self.connections,
+            k,
+            ConnectionState { session, outbox },
+        );
         sent
     }
 

@@ -3,8 +3,8 @@
 #![tactic(auto)]
 
 mod calls;
+mod connection;
 mod control;
-mod guest;
 pub mod laws;
 mod line;
 mod network;
@@ -18,7 +18,9 @@ mod settings;
 mod stranger;
 mod worker;
 
-pub use network::{End, Heard, Judged, Loss, Network, Ready, Service, Stream, Taken};
+pub use network::{
+    ConnectionResult, End, Judged, Loss, Network, Ready, Service, Stream, UpdateResult,
+};
 pub use outbox::{Outbox, Sent};
 pub use results::{Answered, Fed};
 pub use server::{Server, serve};

@@ -1,6 +1,6 @@
 //! An update stream that is up.
 
-use crate::network::{Judged, Loss, Service, Stream, Taken};
+use crate::network::{Judged, Loss, Service, Stream, UpdateResult};
 use crate::outbox::Sent;
 use crate::peer::CHUNK;
 use crate::settings::{Moment, has_passed, passed_since};
@@ -80,7 +80,7 @@ impl<T: Stream> Line<T> {
         if self.at < self.read.len() {
             return self.judge(service, moment);
         }
-        self.hear()
+        self.receive()
     }
 
     // One write of the request that waits.
@@ -99,7 +99,7 @@ impl<T: Stream> Line<T> {
     }
 
     // One read.
-    fn hear(&mut self) -> Step {
+    fn receive(&mut self) -> Step {
         let mut room = [0u8; CHUNK];
         match self.stream.read(&mut room) {
             Ok(0) => Step::Lost(Loss::Closed),
@@ -146,7 +146,12 @@ impl<T: Stream> Line<T> {
     }
 
     // What comes after a judgement.
-    fn judged<S: Service>(&mut self, service: &mut S, taken: &Taken, moment: &Moment) -> Step {
+    fn judged<S: Service>(
+        &mut self,
+        service: &mut S,
+        taken: &UpdateResult,
+        moment: &Moment,
+    ) -> Step {
         if let Some(judged) = taken.response {
             self.responded = true;
             if judged == Judged::Refused {
@@ -166,10 +171,10 @@ impl<T: Stream> Line<T> {
     /// Why the stream is lost now, if it is: a time has passed.
     pub(crate) fn ends(&self, moment: &Moment) -> Option<Loss> {
         if passed_since(self.blocked, moment.settings.write, moment.now) {
-            return Some(Loss::Blocked);
+            return Some(Loss::WriteTimeout);
         }
         if !self.responded && has_passed(self.since, moment.settings.first_response, moment.now) {
-            return Some(Loss::Late);
+            return Some(Loss::ResponseTimeout);
         }
         None
     }

@@ -42,7 +42,7 @@ pub trait Network {
 
 /// The result of bytes of a connection.
 #[derive(Clone, Copy, PartialEq, Eq, Debug)]
-pub struct Heard {
+pub struct ConnectionResult {
     /// Whether each byte so far belongs to a request that was answered.
     pub rests: bool,
     /// Whether a request was answered.
@@ -53,7 +53,7 @@ pub struct Heard {
 
 /// The result of bytes of the update stream.
 #[derive(Clone, Copy, PartialEq, Eq, Debug)]
-pub struct Taken {
+pub struct UpdateResult {
     /// How many of the bytes were taken.
     pub count: usize,
     /// The judgement of a response, if one is complete.
@@ -85,9 +85,9 @@ pub enum Loss {
     /// The other end speaks TLS.
     Tls,
     /// No response came in time.
-    Late,
+    ResponseTimeout,
     /// A request could not be written in time.
-    Blocked,
+    WriteTimeout,
     /// Memory ran out.
     Memory,
 }
@@ -100,11 +100,11 @@ pub enum End {
     /// It failed.
     Reset,
     /// A request was not complete in time.
-    Head,
+    HeadTimeout,
     /// It was not used for too long.
-    Idle,
+    IdleTimeout,
     /// It did not take its answers in time.
-    Blocked,
+    WriteTimeout,
     /// Memory ran out.
     Memory,
     /// The server ends.
@@ -122,7 +122,7 @@ pub trait Service {
     fn open(&mut self, k: usize, conn: &Conn) -> Result<bool, AllocError>;
 
     /// The connection delivers bytes. Its answers wait. After an error it is closed.
-    fn bytes(&mut self, k: usize, bytes: &[u8]) -> Result<Heard, AllocError>;
+    fn bytes(&mut self, k: usize, bytes: &[u8]) -> Result<ConnectionResult, AllocError>;
 
     /// The connection is closed, and what waits for it is dropped.
     fn close(&mut self, k: usize, end: End);
@@ -141,7 +141,7 @@ pub trait Service {
 
     /// The update stream delivers bytes. It takes so many of them that at most one response is complete, whose answer
     /// waits; none while a request waits.
-    fn feed(&mut self, bytes: &[u8]) -> Result<Taken, AllocError>;
+    fn feed(&mut self, bytes: &[u8]) -> Result<UpdateResult, AllocError>;
 
     /// The update stream is lost, or none could be opened. What waits for it is dropped.
     fn lost(&mut self, loss: Loss);

@@ -124,7 +124,7 @@ impl<T: Stream> Peer<T> {
         let mut room = [0u8; CHUNK];
         match self.stream.read(&mut room) {
             Ok(0) => self.closed(),
-            Ok(count) if self.phase == Phase::Open => self.hear(k, service, &room[..count], now),
+            Ok(count) if self.phase == Phase::Open => self.receive(k, service, &room[..count], now),
             Ok(_) => Next::Again,
             Err(error) => match error.kind() {
                 ErrorKind::WouldBlock => Next::Waits,
@@ -144,16 +144,16 @@ impl<T: Stream> Peer<T> {
     }
 
     // Serves bytes that were read.
-    fn hear<S: Service>(&mut self, k: usize, service: &mut S, bytes: &[u8], now: u64) -> Next {
+    fn receive<S: Service>(&mut self, k: usize, service: &mut S, bytes: &[u8], now: u64) -> Next {
         self.used = now;
         match service.bytes(k, bytes) {
-            Ok(heard) => {
+            Ok(result) => {
                 self.begun = match self.begun {
-                    _ if heard.rests => None,
-                    Some(begun) if !heard.answers => Some(begun),
+                    _ if result.rests => None,
+                    Some(begun) if !result.answers => Some(begun),
                     _ => Some(now),
                 };
-                if heard.closes {
+                if result.closes {
                     self.phase = Phase::Ends(false);
                 }
                 Next::Again
@@ -165,19 +165,19 @@ impl<T: Stream> Peer<T> {
     /// Why the connection is to end now, if it is: a time has passed, or the server ends and nothing is under way.
     pub(crate) fn ends(&self, moment: &Moment, drains: bool) -> Option<End> {
         if passed_since(self.blocked, moment.settings.write, moment.now) {
-            return Some(End::Blocked);
+            return Some(End::WriteTimeout);
         }
         match self.phase {
             Phase::Lingers if has_passed(self.used, moment.settings.write, moment.now) => Some(
                 End::Served,
             ),
             Phase::Open if passed_since(self.begun, moment.settings.head, moment.now) => Some(
-                End::Head,
+                End::HeadTimeout,
             ),
             Phase::Open if self.is_quiet() && drains => Some(End::Drained),
             Phase::Open
                 if self.is_quiet() && has_passed(self.used, moment.settings.idle, moment.now) => {
-                Some(End::Idle)
+                Some(End::IdleTimeout)
             }
             _ => None,
         }

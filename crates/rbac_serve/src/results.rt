@@ -1,13 +1,13 @@
 //! The results of a worker's calls.
 
 use ads::{Ended, Judgement};
-use proxy_core::Told;
+use proxy_core::AnsweredAsk;
 
 /// The result of bytes of a connection.
 #[derive(Debug, Drop)]
 pub struct Answered {
     /// What was asked and answered, in order.
-    pub told: Vec<Told>,
+    pub answered_asks: Vec<AnsweredAsk>,
     /// Whether the connection is to be closed once the answers were sent.
     pub closes: bool,
 }

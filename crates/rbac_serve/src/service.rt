@@ -1,9 +1,9 @@
 //! A worker as what a server serves.
 
-use crate::network::{End, Heard, Judged, Loss, Service, Taken};
+use crate::network::{ConnectionResult, End, Judged, Loss, Service, UpdateResult};
 use crate::outbox::Sent;
 use crate::worker::Worker;
-use ads::{Judgement, Outcome};
+use ads::{Judgement, ResponseOutcome};
 use attributes::Conn;
 use std::alloc::AllocError;
 use std::io::{self, Write};
@@ -17,11 +17,11 @@ impl Service for Worker {
         Worker::open(self, k, conn)
     }
 
-    fn bytes(&mut self, k: usize, bytes: &[u8]) -> Result<Heard, AllocError> {
+    fn bytes(&mut self, k: usize, bytes: &[u8]) -> Result<ConnectionResult, AllocError> {
         let answered = Worker::bytes(self, k, bytes)?;
-        Ok(Heard {
+        Ok(ConnectionResult {
             rests: Worker::is_fresh(self, k),
-            answers: !answered.told.is_empty(),
+            answers: !answered.answered_asks.is_empty(),
             closes: answered.closes,
         })
     }
@@ -44,9 +44,9 @@ impl Service for Worker {
         Worker::up(self)
     }
 
-    fn feed(&mut self, bytes: &[u8]) -> Result<Taken, AllocError> {
+    fn feed(&mut self, bytes: &[u8]) -> Result<UpdateResult, AllocError> {
         let fed = Worker::feed(self, bytes)?;
-        Ok(Taken {
+        Ok(UpdateResult {
             count: fed.count,
             response: fed.judgements.last().map(judged),
             ended: fed.ended,
@@ -69,7 +69,7 @@ impl Service for Worker {
 /// Whether a response was accepted.
 pub fn judged(judgement: &Judgement) -> Judged {
     match judgement.outcome {
-        Outcome::Accepted(_) => Judged::Accepted,
-        Outcome::Refused(_) => Judged::Refused,
+        ResponseOutcome::Accepted(_) => Judged::Accepted,
+        ResponseOutcome::Refused(_) => Judged::Refused,
     }
 }

@@ -5,7 +5,7 @@ ghost use Rattle.ads.specs.Ends.{client_view};
 ghost use Rattle.rbac_serve.specs.Tables.{FitsFor, sessions_of, state_of};
 ghost use Rattle.rbac_serve.specs.Turns.{IsReached};
 
-use crate::guest::Guest;
+use crate::connection::ConnectionState;
 use crate::outbox::Outbox;
 use ads::Client;
 use std::alloc::Global;
@@ -16,8 +16,8 @@ use std::alloc::Global;
 pub struct Worker {
     pub(crate) alloc: Global,
     pub(crate) client: Client,
-    pub(crate) guests: Vec<Guest>,
+    pub(crate) connections: Vec<ConnectionState>,
     pub(crate) requests: Outbox,
-    ghost fits: { ∥ AllByRecursion (FitsFor (client_view client).config.limits) (sessions_of guests.items) ∥₁ },
-    ghost reached: { ∥ IsReached (state_of client guests.items requests) ∥₁ },
+    ghost fits: { ∥ AllByRecursion (FitsFor (client_view client).config.limits) (sessions_of connections.items) ∥₁ },
+    ghost reached: { ∥ IsReached (state_of client connections.items requests) ∥₁ },
 }

@@ -15,27 +15,27 @@ use Rattle.program_jobs.specs.declared.job_fault.JobFault.TheVariants as faults
 module _ (holds : List ℕ → List ℕ → Type 0) (lacks : (List ℕ × IoError) → Type 0)
     (out out_new errors errors_new : Option (List ℕ)) (status : ℕ) where
   -- and where a server has no settings
-  pub end_of_serve : (path : List ℕ) (check : Bool) (fault told : JobFault)
+  pub end_of_serve : (path : List ℕ) (check : Bool) (fault reported : JobFault)
       → MemoryOrStop (LacksSettings holds lacks path) fault
-      → (told ≡ fault) ⊎ (told ≡ faults.Memory) → LeavesFault out out_new errors errors_new status told
+      → (reported ≡ fault) ⊎ (reported ≡ faults.Memory) → LeavesFault out out_new errors errors_new status reported
       → EndsServe holds lacks out out_new errors errors_new status path check
-  end_of_serve path check fault told (inl none) (inl same) left = EndsServe.memory (rw (same, none) at left)
-  end_of_serve path check fault told (inr lacking) (inl same) left = EndsServe.lacking fault lacking (rw same at left)
-  end_of_serve path check fault told stops (inr none) left = EndsServe.memory (rw none at left)
+  end_of_serve path check fault reported (inl none) (inl same) left = EndsServe.memory (rw (same, none) at left)
+  end_of_serve path check fault reported (inr lacking) (inl same) left = EndsServe.lacking fault lacking (rw same at left)
+  end_of_serve path check fault reported stops (inr none) left = EndsServe.memory (rw none at left)
 
 module _ (holds : List ℕ → List ℕ → Type 0) (lacks : (List ℕ × IoError) → Type 0)
     (connects accepts : List ℕ → Option Link → Type 0) (out out_new errors errors_new : Option (List ℕ)) (status : ℕ) where
   -- where the words name no job, that is told, or out of memory
-  pub end_of_words : (input : Option (List ℕ)) (words : List (List ℕ)) (error : Error) (fault told : JobFault)
+  pub end_of_words : (input : Option (List ℕ)) (words : List (List ℕ)) (error : Error) (fault reported : JobFault)
       → (kind_of error ≡ kinds.OutOfMemory → fault ≡ faults.Memory)
       → (fault ≡ faults.Memory) ⊎ (fault ≡ faults.Words error)
       → (kind_of error ≡ kinds.OutOfMemory) ⊎ AreMistaken words (kind_of error)
-      → (told ≡ fault) ⊎ (told ≡ faults.Memory) → LeavesFault out out_new errors errors_new status told
+      → (reported ≡ fault) ⊎ (reported ≡ faults.Memory) → LeavesFault out out_new errors errors_new status reported
       → Ran holds lacks connects accepts input out out_new errors errors_new status words
-  end_of_words input words error fault told memory either mistaken (inr none) left = Ran.memory (rw none at left)
-  end_of_words input words error fault told memory (inl none) mistaken (inl same) left =
+  end_of_words input words error fault reported memory either mistaken (inr none) left = Ran.memory (rw none at left)
+  end_of_words input words error fault reported memory (inl none) mistaken (inl same) left =
       Ran.memory (rw (same, none) at left)
-  end_of_words input words error fault told memory (inr is) (inl none) (inl same) left =
+  end_of_words input words error fault reported memory (inr is) (inl none) (inl same) left =
       Ran.memory (rw (same, memory none) at left)
-  end_of_words input words error fault told memory (inr is) (inr mistaken) (inl same) left =
+  end_of_words input words error fault reported memory (inr is) (inr mistaken) (inl same) left =
       Ran.mistaken error mistaken (rw (same, is) at left)

@@ -36,7 +36,7 @@ fn first_bad_word<R: Env>(rt: &R) -> Option<usize> {
 }
 
 /// Prints why the words of the command line cannot be read.
-fn tell_bad_words<R: Env, E: Write>(rt: &R, cause: io::Error, errors: &mut E) {
+fn write_word_fault<R: Env, E: Write>(rt: &R, cause: io::Error, errors: &mut E) {
     let _ = match first_bad_word(rt) {
         Some(index) => writeln!(
             errors,
@@ -55,7 +55,7 @@ fn main(rt: HostRuntime) -> ExitCode {
             return ExitCode::from(Outcome::Memory.status());
         }
         Err(error) => {
-            tell_bad_words(&rt, error, &mut errors);
+            write_word_fault(&rt, error, &mut errors);
             return ExitCode::from(MISTAKE);
         }
     };

@@ -5,8 +5,8 @@ ghost use Rattle.program_jobs.specs.private.Stopping.{MemoryOrStop};
 
 use command_line::ServeWords;
 use program_jobs::{
-    JobFault, MISTAKE, Setup, SetupFault, Source, end_by, end_by_memory, read_file, read_setup,
-    setup_text, show, tell,
+    JobFault, MISTAKE, ServerSettings, ServerSettingsFault, Source, end_by, end_by_memory,
+    read_file, read_server_settings, server_settings_text, show, write_error,
 };
 use rbac_host::{HostFault, host};
 use rbac_judge::Notes;
@@ -16,13 +16,19 @@ use std::io::Write;
 /// What can run a server.
 pub trait Hosts {
     /// Serves by these settings until the server is to end. Fails if it cannot begin, or cannot go on.
-    fn host(&self, alloc: Global, setup: Setup) -> Result<(), HostFault>;
+    fn host(&self, alloc: Global, server_settings: ServerSettings) -> Result<(), HostFault>;
 }
 
 /// The server of the system.
 impl Hosts for HostRuntime {
-    fn host(&self, alloc: Global, setup: Setup) -> Result<(), HostFault> {
-        host(alloc, self, setup.config, setup.conn, setup.settings)
+    fn host(&self, alloc: Global, server_settings: ServerSettings) -> Result<(), HostFault> {
+        host(
+            alloc,
+            self,
+            server_settings.config,
+            server_settings.conn,
+            server_settings.settings,
+        )
     }
 }
 
@@ -38,12 +44,12 @@ pub(crate) fn run_serve<F: Source + Hosts, W: Write, E: Write>(
         (E.contents errors.old) (E.contents errors.new) result (string_bytes words.now.config) words.now.check }
 {
     let mut notes = Notes::new(alloc);
-    match setup_in(alloc, system, words.config.as_str(), &mut notes) {
-        Ok(setup) => {
+    match server_settings_in(alloc, system, words.config.as_str(), &mut notes) {
+        Ok(server_settings) => {
             if !words.check {
-                return served(alloc, system, setup, out, errors);
+                return served(alloc, system, server_settings, out, errors);
             }
-            match setup_text(alloc, &setup) {
+            match server_settings_text(alloc, &server_settings) {
                 Ok(text) => show(text.as_bytes(), 0, out, errors),
                 Err(AllocError) => end_by_memory(out, errors),
             }
@@ -56,39 +62,39 @@ pub(crate) fn run_serve<F: Source + Hosts, W: Write, E: Write>(
 fn served<F: Hosts, W: Write, E: Write>(
     alloc: Global,
     system: &F,
-    setup: Setup,
+    server_settings: ServerSettings,
     out: &mut W,
     errors: &mut E,
 ) -> u8
     ensures { EndsHost (W.contents out.old) (W.contents out.new) (E.contents errors.old) (E.contents errors.new) result }
 {
-    let fault = match system.host(alloc, setup) {
+    let fault = match system.host(alloc, server_settings) {
         Ok(()) => return 0,
         Err(HostFault::Memory(_)) => return end_by_memory(out, errors),
         Err(fault) => fault,
     };
     match format!(in alloc; "{fault}\n") {
-        Ok(text) => tell(text.as_bytes(), MISTAKE, errors),
+        Ok(text) => write_error(text.as_bytes(), MISTAKE, errors),
         Err(AllocError) => end_by_memory(out, errors),
     }
 }
 
 /// The settings in the file at this path.
-fn setup_in<F: Source>(
+fn server_settings_in<F: Source>(
     alloc: Global,
     files: &F,
     path: &str,
     notes: &mut Notes,
-) -> Result<Setup, JobFault>
-    ensures found { IfOk result (λ setup. (text : List ℕ) × F.holds files.now path.now text) }
+) -> Result<ServerSettings, JobFault>
+    ensures found { IfOk result (λ server_settings. (text : List ℕ) × F.holds files.now path.now text) }
     ensures fault { IfErr result (MemoryOrStop
         (LacksSettings (F.holds files.now) (F.lacks files.now) path.now)) }
 {
     let text = read_file(alloc, files, path)?;
-    match read_setup(alloc, path, &text) {
-        Ok(setup) => Ok(setup),
-        Err(SetupFault::Memory) => Err(JobFault::Memory),
-        Err(SetupFault::Bad(cause)) => {
+    match read_server_settings(alloc, path, &text) {
+        Ok(server_settings) => Ok(server_settings),
+        Err(ServerSettingsFault::Memory) => Err(JobFault::Memory),
+        Err(ServerSettingsFault::Bad(cause)) => {
             notes.config = cause;
             Err(JobFault::Config)
         }

@@ -5,16 +5,16 @@ const STATUSES: usize = 16;
 
 /// How often each status was answered. A status that finds no free place is counted with the other ones.
 #[derive(Clone, Copy, PartialEq, Eq, Debug)]
-pub(crate) struct Faults {
+pub(crate) struct StatusCounts {
     // a status and its count; a count of 0 is a free place
     places: [(u16, u64); STATUSES],
     others: u64,
 }
 
-impl Faults {
+impl StatusCounts {
     /// No fault.
-    pub(crate) fn new() -> Faults {
-        Faults {
+    pub(crate) fn new() -> StatusCounts {
+        StatusCounts {
             places: [(0, 0); STATUSES],
             others: 0,
         }

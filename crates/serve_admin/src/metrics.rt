@@ -1,7 +1,7 @@
 //! The counters of a server.
 
 use crate::counter::count_in;
-use crate::faults::Faults;
+use crate::faults::StatusCounts;
 use crate::filter_counts::{FilterCounts, zeros};
 use crate::histogram::Histogram;
 use crate::recent::Recent;
@@ -14,7 +14,7 @@ use std::alloc::{AllocError, Global};
 pub struct Metrics {
     alloc: Global,
     pub(crate) verdicts: [u64; VERDICTS.len()],
-    pub(crate) faults: Faults,
+    pub(crate) faults: StatusCounts,
     pub(crate) filters: Vec<FilterCounts>,
     pub(crate) accepted: u64,
     pub(crate) refused_connections: u64,
@@ -40,7 +40,7 @@ impl Metrics {
         Ok(Metrics {
             alloc,
             verdicts: [0; VERDICTS.len()],
-            faults: Faults::new(),
+            faults: StatusCounts::new(),
             filters: counts,
             accepted: 0,
             refused_connections: 0,

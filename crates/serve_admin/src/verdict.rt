@@ -40,11 +40,11 @@ pub enum Closed {
     /// It failed.
     Reset,
     /// A request was not complete in time.
-    Head,
+    HeadTimeout,
     /// It was not used for too long.
-    Idle,
+    IdleTimeout,
     /// It did not take its answers in time.
-    Blocked,
+    WriteTimeout,
     /// Memory ran out.
     Memory,
     /// The server ends.
@@ -64,9 +64,9 @@ impl Closed {
         match self {
             Closed::Served => 0,
             Closed::Reset => 1,
-            Closed::Head => 2,
-            Closed::Idle => 3,
-            Closed::Blocked => 4,
+            Closed::HeadTimeout => 2,
+            Closed::IdleTimeout => 3,
+            Closed::WriteTimeout => 4,
             Closed::Memory => 5,
             Closed::Drained => 6,
             Closed::Unfit => 7,

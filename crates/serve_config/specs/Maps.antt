@@ -11,7 +11,7 @@ use Rattle.head_map.specs.declared.fact.Fact.TheVariants as facts
 use Rattle.head_map.specs.declared.fact.NamedFact.{NamedFact}
 use Rattle.head_map.specs.declared.mapping.Mapping.{Mapping}
 use Rattle.head_map.specs.Mapped.{MappingValue, mapping_view}
-use Rattle.head_map.specs.Mappings.{IsMapping, told_name}
+use Rattle.head_map.specs.Mappings.{IsMapping, fact_name}
 use Rattle.serve_config.specs.Members.{IsNumberFrom, member_of}
 use Rattle.serve_config.specs.declared.config.Paths.{Paths}
 use Rattle.serve_config.specs.declared.config.Paths.TheVariants.{AsSent, Strict}
@@ -58,7 +58,7 @@ NamesField d field fact = d ≡ string (string_bytes field)
 
 -- the member of this value names this field, which holds what the member's name says
 abbrev pub IsNamedBy : Member × Data → NamedFact → Type 0
-IsNamedBy (member, d) one = (told_name one.fact ≡ member_name member) × NamesField d one.field one.fact
+IsNamedBy (member, d) one = (fact_name one.fact ≡ member_name member) × NamesField d one.field one.fact
 
 -- the names of an array; none if there is no member
 abbrev pub AreRequired : Option Data → List (List ℕ) → Type 0

@@ -6,13 +6,13 @@ mod addresses;
 mod config;
 mod fault;
 mod map;
+mod meaning_text;
 mod numbers;
 mod object;
 mod reading;
-mod telling;
 
 pub use address::{Address, ControlAddress};
 pub use config::{AccessLog, Paths, Record, ServeConfig, Timeouts};
 pub use fault::ServeConfigFault;
+pub use meaning_text::meaning;
 pub use reading::read_serve_config;
-pub use telling::meaning;

@@ -3,7 +3,7 @@ ghost use Rattle.std.specs.Prelude.{◌≡◌, IfOk, codes, map, string_bytes};
 ghost use Rattle.std.specs.List.{AllZip};
 ghost use Rattle.serde_json.specs.Data.{string};
 ghost use Rattle.serde_json.specs.View.{view};
-ghost use Rattle.head_map.specs.Mappings.{told_name};
+ghost use Rattle.head_map.specs.Mappings.{fact_name};
 ghost use Rattle.serve_config.specs.Maps.{AreRequired, IsMappingBy, IsNamedBy, IsPathsBy, member_name, present};
 ghost use Rattle.serve_config.specs.Members.{data_of, member_of};
 ghost use Rattle.serve_config.specs.declared.map.Member.TheVariants as members;
@@ -123,7 +123,7 @@ fn cause_of(fault: MappingFault) -> &'static str {
     match fault {
         MappingFault::BadName => BAD_FIELD,
         MappingFault::NamedTwice => NAMED_TWICE,
-        MappingFault::ToldTwice => "has two fields for one fact",
+        MappingFault::ClaimedTwice => "has two fields for one fact",
         MappingFault::NoPlace => "has hops of 0",
     }
 }
@@ -178,7 +178,7 @@ fn plain(
     value: &Value,
     fact: Fact,
 ) -> Result<NamedFact, ServeConfigFault>
-    requires { (told_name fact ≡ member_name member) × IsPlain fact }
+    requires { (fact_name fact ≡ member_name member) × IsPlain fact }
     ensures { IfOk result (IsNamedBy (member, view value.now)) }
 {
     let field = field_of(map, member.name(), value, BAD_FIELD)?;

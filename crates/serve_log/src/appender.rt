@@ -1,6 +1,6 @@
 //! A writer of lines, and the lines that wait for it.
 
-use crate::faults::{Fault, Faults};
+use crate::faults::{Fault, LogFaults};
 use crate::waiting::{Waiting, Written};
 use std::alloc::Global;
 use std::io::Write;
@@ -40,13 +40,13 @@ impl<W: Write + Drop> Appender<W> {
     }
 
     /// Writes once, if lines wait; not within a second after a write failed.
-    pub(crate) fn flush(&mut self, now: u64, faults: &mut Faults) {
+    pub(crate) fn flush(&mut self, now: u64, faults: &mut LogFaults) {
         self.now = now;
         self.write(faults);
     }
 
     /// The same, at the time of the last `flush`.
-    pub(crate) fn write(&mut self, faults: &mut Faults) {
+    pub(crate) fn write(&mut self, faults: &mut LogFaults) {
         if self.now < self.paused_until {
             return;
         }
@@ -65,7 +65,7 @@ impl<W: Write + Drop> Appender<W> {
     }
 
     /// Goes on with another writer. If a line is half written, the rest of it is written once more or lost.
-    pub(crate) fn change(&mut self, writer: W, faults: &mut Faults) {
+    pub(crate) fn change(&mut self, writer: W, faults: &mut LogFaults) {
         if self.waiting.is_half() {
             if let Err(fault) = self.try_write() {
                 faults.note(fault);

@@ -63,23 +63,23 @@ impl Fault {
 
 /// The faults of a log: how many lines were lost, and what the next complaint says.
 #[derive(Drop)]
-pub(crate) struct Faults {
+pub(crate) struct LogFaults {
     dropped: u64,
     // how many were lost at the last complaint
-    told: u64,
+    reported: u64,
     // the first fault since then
     fault: Option<Fault>,
     quiet_until: u64,
 }
 
-impl Faults {
+impl LogFaults {
     /// No line was lost.
-    pub(crate) fn none() -> Faults
+    pub(crate) fn none() -> LogFaults
         ensures { result.dropped ≡ 0 }
     {
-        Faults {
+        LogFaults {
             dropped: 0,
-            told: 0,
+            reported: 0,
             fault: None,
             quiet_until: 0,
         }
@@ -110,13 +110,13 @@ impl Faults {
     }
 
     /// What to say about the log of this name; at most once a minute.
-    pub(crate) fn complaint(&mut self, alloc: Global, name: &str, now: u64) -> Option<String> {
-        let lines = self.dropped.saturating_sub(self.told);
+    pub(crate) fn fault_report(&mut self, alloc: Global, name: &str, now: u64) -> Option<String> {
+        let lines = self.dropped.saturating_sub(self.reported);
         if now < self.quiet_until || (lines == 0 && self.fault.is_none()) {
             return None;
         }
         let text = text_of(alloc, name, &self.fault, lines).ok()?;
-        self.told = self.dropped;
+        self.reported = self.dropped;
         self.fault = None;
         self.quiet_until = now.saturating_add(QUIET);
         Some(text)

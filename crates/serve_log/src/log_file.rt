@@ -1,7 +1,7 @@
 //! A log to which lines are appended.
 
 use crate::appender::Appender;
-use crate::faults::{Fault, Faults};
+use crate::faults::{Fault, LogFaults};
 use crate::files::LogFiles;
 use std::alloc::Global;
 use std::io;
@@ -15,7 +15,7 @@ pub struct LogFile<F: LogFiles + Drop> {
     // none if the writer is the owner's
     path: Option<String>,
     out: Appender<F::File>,
-    faults: Faults,
+    faults: LogFaults,
 }
 
 impl<F: LogFiles + Drop> LogFile<F> {
@@ -31,7 +31,7 @@ impl<F: LogFiles + Drop> LogFile<F> {
             files,
             path: Some(path),
             out: Appender::new(alloc, file),
-            faults: Faults::none(),
+            faults: LogFaults::none(),
         })
     }
 
@@ -42,7 +42,7 @@ impl<F: LogFiles + Drop> LogFile<F> {
             files,
             path: None,
             out: Appender::new(alloc, writer),
-            faults: Faults::none(),
+            faults: LogFaults::none(),
         }
     }
 
@@ -84,11 +84,11 @@ impl<F: LogFiles + Drop> LogFile<F> {
 
     /// A text for standard error, if a call failed or lines were dropped since the last one. It has the path, the first
     /// cause and the number of lines. There is at most one in a minute.
-    pub fn complaint(&mut self, now_ms: u64) -> Option<String> {
+    pub fn fault_report(&mut self, now_ms: u64) -> Option<String> {
         let name = match &self.path {
             Some(path) => path.as_str(),
             None => "standard error",
         };
-        self.faults.complaint(self.alloc, name, now_ms)
+        self.faults.fault_report(self.alloc, name, now_ms)
     }
 }

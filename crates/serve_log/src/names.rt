@@ -12,19 +12,19 @@ pub(crate) const MOST_OLDER: u32 = 1_000;
 /// The names of the files of a record. The file that is written has the path itself. The older ones have `.1`, `.2` and
 /// so on added, up to a number.
 #[derive(Drop)]
-pub(crate) struct Names {
+pub(crate) struct FileNames {
     alloc: Global,
     path: String,
     older: u32,
 }
 
-impl Names {
+impl FileNames {
     /// The names for this path and at most so many older files.
-    pub(crate) fn new(alloc: Global, path: &str, older: u32) -> Result<Names, AllocError>
+    pub(crate) fn new(alloc: Global, path: &str, older: u32) -> Result<FileNames, AllocError>
         ensures path { IfOk result (λ names. string_bytes names.path ≡ path.now) }
         ensures older { IfOk result (λ names. names.older ≡ min older 1000) }
     {
-        Ok(Names {
+        Ok(FileNames {
             alloc,
             path: String::from_str(alloc, path)?,
             older: older.min(MOST_OLDER),

@@ -1,6 +1,6 @@
 //! The open files of a record.
 
-use crate::faults::Faults;
+use crate::faults::LogFaults;
 use crate::record_file::RecordFile;
 use std::alloc::{AllocError, Global};
 use std::io::Write;
@@ -15,7 +15,7 @@ pub(crate) struct OpenFiles<W: Drop> {
     pub(crate) current: RecordFile<W>,
     // the oldest first
     old: Vec<RecordFile<W>>,
-    pub(crate) faults: Faults,
+    pub(crate) faults: LogFaults,
 }
 
 impl<W: Write + Drop> OpenFiles<W> {
@@ -24,7 +24,7 @@ impl<W: Write + Drop> OpenFiles<W> {
         OpenFiles {
             current,
             old: Vec::new(alloc),
-            faults: Faults::none(),
+            faults: LogFaults::none(),
         }
     }
 

@@ -2,7 +2,7 @@
 ghost use Rattle.std.specs.Prelude.{◌≡◌, ◌+◌, ◌-◌, ◌^◌, min};
 
 use crate::appender::Appender;
-use crate::faults::{Fault, Faults};
+use crate::faults::{Fault, LogFaults};
 use std::alloc::{AllocError, Global};
 use std::io::{self, ErrorKind, Write};
 
@@ -127,7 +127,7 @@ impl<W: Write + Drop> RecordFile<W> {
     pub(crate) fn add(
         &mut self,
         line: &Result<String, AllocError>,
-        faults: &mut Faults,
+        faults: &mut LogFaults,
     ) -> Option<u64> {
         if self.is_whole {
             if self.out.waiting().len() > MANY {
@@ -151,7 +151,7 @@ impl<W: Write + Drop> RecordFile<W> {
     }
 
     /// Writes once, if lines wait.
-    pub(crate) fn flush(&mut self, now: u64, faults: &mut Faults) {
+    pub(crate) fn flush(&mut self, now: u64, faults: &mut LogFaults) {
         self.out.flush(now, faults);
     }
 }

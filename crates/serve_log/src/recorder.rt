@@ -5,7 +5,7 @@ use crate::connection::Connection;
 use crate::event_lines::{closed_line, fed_line, lost_line, opened_line, received_line, up_line};
 use crate::faults::Fault;
 use crate::files::LogFiles;
-use crate::names::Names;
+use crate::names::FileNames;
 use crate::open_files::OpenFiles;
 use crate::record_file::RecordFile;
 use crate::updates::{Fed, Updates};
@@ -51,7 +51,7 @@ pub struct RecordSettings<'a> {
 pub struct Recorder<F: LogFiles + Drop> {
     alloc: Global,
     files: F,
-    names: Names,
+    names: FileNames,
     bytes: u64,
     updates: Updates,
     connections: Vec<Option<Connection>>,
@@ -74,7 +74,7 @@ impl<F: LogFiles + Drop> Recorder<F> {
         files: F,
         settings: &RecordSettings<'_>,
     ) -> Result<Recorder<F>, Fault> {
-        let names = Names::new(alloc, settings.path, settings.older)?;
+        let names = FileNames::new(alloc, settings.path, settings.older)?;
         let updates = Updates::new(alloc, settings.filters)?;
         let file = begun(alloc, &files, &names, &updates, 1)?;
         Ok(Recorder {
@@ -200,9 +200,9 @@ impl<F: LogFiles + Drop> Recorder<F> {
 
     /// A text for standard error, if a call failed or lines were dropped since the last one. It has the path, the first
     /// cause and the number of lines. There is at most one in a minute.
-    pub fn complaint(&mut self, now_ms: u64) -> Option<String> {
+    pub fn fault_report(&mut self, now_ms: u64) -> Option<String> {
         let name = self.names.path();
-        self.open.faults.complaint(self.alloc, name, now_ms)
+        self.open.faults.fault_report(self.alloc, name, now_ms)
     }
 
     /// Begins a new file.
@@ -275,7 +275,7 @@ impl<F: LogFiles + Drop> Recorder<F> {
 fn begun<F: LogFiles>(
     alloc: Global,
     files: &F,
-    names: &Names,
+    names: &FileNames,
     updates: &Updates,
     number: u64,
 ) -> Result<RecordFile<F::File>, Fault> {

@@ -16,7 +16,7 @@ pub enum Fed<'a> {
 
 /// A response that was accepted.
 #[derive(Drop)]
-struct Kept {
+struct AcceptedResponse {
     // how many responses were accepted, with this one
     generation: u64,
     // its frame
@@ -32,7 +32,7 @@ pub(crate) struct Updates {
     generation: u64,
     // for each filter the number of the response that last gave its policies, or 0
     given_by: Vec<u64>,
-    kept: Vec<Kept>,
+    kept: Vec<AcceptedResponse>,
     // the bytes of the response that is not complete
     unfinished: Vec<u8>,
     // whether no memory was lacking for them
@@ -93,7 +93,7 @@ impl Updates {
             }
         }
         if let Some(bytes) = self.finish() {
-            let _ = self.kept.push(Kept { generation, bytes });
+            let _ = self.kept.push(AcceptedResponse { generation, bytes });
         }
         let given_by = &self.given_by;
         self.kept.retain(|kept| kept.generation == generation

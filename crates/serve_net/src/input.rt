@@ -11,7 +11,7 @@ const STANDARD_INPUT: i32 = 0;
 #[derive(Clone, Copy, PartialEq, Eq, Debug)]
 pub(crate) enum StandardInput {
     /// It does not count, or has come.
-    Unheard,
+    Ignored,
     /// The system reports it: a pipe, a terminal or a socket. It is read once after each report, so that no read waits.
     Reported,
     /// Reads tell of it: a file or `/dev/null`, which the system does not report and whose reads do not wait. It is read
@@ -30,14 +30,19 @@ impl StandardInput {
     }
 
     /// Reads once, and drops what was read. Returns whether this was the end.
-    pub(crate) fn hear<R: Input>(&mut self, rt: &R, registry: &Registry, token: Token) -> bool {
+    pub(crate) fn read_once<R: Input>(
+        &mut self,
+        rt: &R,
+        registry: &Registry,
+        token: Token,
+    ) -> bool {
         let mut room = [0u8; 4_096];
         match rt.reader().read(&mut room) {
             Ok(count) if count > 0 => {}
             Err(error) if error.kind() == ErrorKind::WouldBlock => {}
             Err(error) if error.kind() == ErrorKind::Interrupted => {}
             _ => {
-                *self = StandardInput::Unheard;
+                *self = StandardInput::Ignored;
                 return true;
             }
         }

@@ -57,7 +57,7 @@ impl<'r, R: Net + Files + Clock + Input> Sockets<'r, R> {
             let end = named(Ready::Drain).map_err(OpenFault::System)?;
             StandardInput::register(registry, end).map_err(OpenFault::Input)?
         } else {
-            StandardInput::Unheard
+            StandardInput::Ignored
         };
         listeners.open(alloc, rt, &config.listen)?;
         let token = named(Ready::Listener).map_err(OpenFault::System)?;
@@ -90,10 +90,10 @@ impl<'r, R: Net + Files + Clock + Input> Sockets<'r, R> {
             Err(error) if error.kind() != ErrorKind::Interrupted => return Err(error),
             _ => {}
         }
-        let mut hears = self.input == StandardInput::Read;
+        let mut reads_input = self.input == StandardInput::Read;
         for event in &self.events {
             match event::meaning(event.token().0) {
-                Some(Ready::Drain) => hears = true,
+                Some(Ready::Drain) => reads_input = true,
                 Some(found) => ready.push(found)?,
                 None => {}
             }
@@ -103,7 +103,7 @@ impl<'r, R: Net + Files + Clock + Input> Sockets<'r, R> {
             ready.push(Ready::Listener)?;
         }
         let now = self.now()?;
-        if hears && self.input_ends()? {
+        if reads_input && self.input_ends()? {
             ready.push(Ready::Drain)?;
         }
         if let ControlPlane::File(file) = &mut self.control {
@@ -132,11 +132,11 @@ impl<'r, R: Net + Files + Clock + Input> Sockets<'r, R> {
 
     // Whether standard input ends with this read.
     fn input_ends(&mut self) -> io::Result<bool> {
-        if self.input == StandardInput::Unheard {
+        if self.input == StandardInput::Ignored {
             return Ok(false);
         }
         let token = named(Ready::Drain)?;
-        Ok(self.input.hear(self.rt, self.poll.registry(), token))
+        Ok(self.input.read_once(self.rt, self.poll.registry(), token))
     }
 
     // The milliseconds since the sockets were opened.

@@ -14,7 +14,7 @@ feeds_more a b c (first ∷ calls) call (next, here, rest) does = (next, here, f
 -- a stream that has no reason to end
 pub goes_on : {A : Type 0} (ended : Option A) (whole : Bool) → is_some ended ≡ not whole → whole ≡ true
     → is_some ended ≡ false
-goes_on ended whole told is = told ∙ ap not is
+goes_on ended whole reported is = reported ∙ ap not is
 
 -- a read that gives nothing
 pub read_none : (before now after : Option (List ℕ)) (read room : List ℕ) (count : ℕ) → count ≡ 0

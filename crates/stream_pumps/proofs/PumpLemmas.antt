@@ -13,10 +13,10 @@ use Rattle.attributes.specs.Conn.{Facts}
 use Rattle.proxy_core.specs.Events.{EventValue, OutputValue, ads_lost, http_closed, http_open, output_view}
 use Rattle.proxy_core.specs.declared.event.Output.{Output}
 use Rattle.program_texts.specs.Output.{Takes}
-use Rattle.stream_pumps.specs.Pumps.{AllButLast, Hears, LastIs, WrittenInTurn, http_of, joined}
-use Rattle.stream_pumps.specs.declared.pumps.Turn.{Turn}
-use Rattle.stream_pumps.specs.declared.pumps.Turn.TheVariants as turns
-use Rattle.stream_pumps.specs.private.Pumping.{IsTurnOf}
+use Rattle.stream_pumps.specs.Pumps.{AllButLast, ReceivesConnection, LastIs, WrittenInTurn, http_of, joined}
+use Rattle.stream_pumps.specs.declared.pumps.EventResult.{EventResult}
+use Rattle.stream_pumps.specs.declared.pumps.EventResult.TheVariants as turns
+use Rattle.stream_pumps.specs.private.Pumping.{IsResultOf}
 
 pub joined_more : (chunks : List (List ℕ)) (chunk : List ℕ) → joined (chunks ++ chunk ∷ []) ≡ joined chunks ++ chunk
 joined_more [] chunk = append-nil chunk
@@ -35,19 +35,19 @@ step_sure (Ok out) old new event found sure = (output_view out, found)
 step_sure (Err e) old new event found sure = absurd (false≢true sure)
 
 -- the loss of the update stream is sure to be told, and the closing of a connection
-pub loss_told : (r : Result Output AllocError) (old new : ProxyValue)
+pub loss_reported : (r : Result Output AllocError) (old new : ProxyValue)
     → IfOk r (λ out. StepsBy old ads_lost (output_view out) new) → IsOk r → new ≡ with_client old (stream_down old.client)
-loss_told r old new found sure = (step_sure r old new ads_lost found sure).1.1
+loss_reported r old new found sure = (step_sure r old new ads_lost found sure).1.1
 
-pub closing_told : (r : Result Output AllocError) (old new : ProxyValue)
+pub closing_reported : (r : Result Output AllocError) (old new : ProxyValue)
     → IfOk r (λ out. StepsBy old (http_closed 0) (output_view out) new) → IsOk r → new ≡ with_conn old 0 None
-closing_told r old new found sure = (step_sure r old new (http_closed 0) found sure).1.1
+closing_reported r old new found sure = (step_sure r old new (http_closed 0) found sure).1.1
 
 module _ (old new : ProxyValue) (input input_new out out_new : Option (List ℕ)) (facts : Facts) where
   -- the opening alone
-  pub heard_opening : (call : EventCall) → event_of call ≡ http_open 0 facts → CallDoes old call new
-      → input_new ≡ input → Takes out out_new (http_of call) → Hears old new input input_new out out_new facts
-  heard_opening call given does same written = record {
+  pub received_opening : (call : EventCall) → event_of call ≡ http_open 0 facts → CallDoes old call new
+      → input_new ≡ input → Takes out out_new (http_of call) → ReceivesConnection old new input input_new out out_new facts
+  received_opening call given does same written = record {
     chunks = [];
     calls = call ∷ [];
     done = (new, does, refl);
@@ -140,19 +140,19 @@ whole_joined out now (text ∷ texts) (between, here, rest) =
     Appends-trans out between now text (joined texts) here (whole_joined between now texts rest)
 
 -- a turn that is no end leaves the stream or the connection open
-pub stays_open : (written : List ℕ) (closes : Bool) (turn : Turn) → IsTurnOf written closes turn → turn ≢ turns.Ended
+pub stays_open : (written : List ℕ) (closes : Bool) (turn : EventResult) → IsResultOf written closes turn → turn ≢ turns.Ended
     → closes ≡ false
 stays_open written closes turns.Ended is not_ended = absurd (not_ended refl)
 stays_open written closes turns.Waits is not_ended = is.0
 stays_open written closes turns.Answered is not_ended = is.0
 
-pub turn_waits : (written : List ℕ) (closes : Bool) (turn : Turn) → IsTurnOf written closes turn → turn ≡ turns.Waits
+pub turn_waits : (written : List ℕ) (closes : Bool) (turn : EventResult) → IsResultOf written closes turn → turn ≡ turns.Waits
     → (closes ≡ false) × (written ≡ [])
 turn_waits written closes turns.Ended is same = (let clash = same in cc)
 turn_waits written closes turns.Waits is same = is
 turn_waits written closes turns.Answered is same = (let clash = same in cc)
 
-pub turn_responds : (written : List ℕ) (closes : Bool) (turn : Turn) → IsTurnOf written closes turn → turn ≡ turns.Answered
+pub turn_responds : (written : List ℕ) (closes : Bool) (turn : EventResult) → IsResultOf written closes turn → turn ≡ turns.Answered
     → (closes ≡ false) × (written ≢ [])
 turn_responds written closes turns.Ended is same = (let clash = same in cc)
 turn_responds written closes turns.Waits is same = (let clash = same in cc)

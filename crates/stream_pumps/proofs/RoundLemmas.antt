@@ -7,7 +7,7 @@ use Rattle.ads.specs.Control.{ControlValue}
 use Rattle.proxy_core.specs.Step.{ProxyValue}
 use Rattle.stream_pumps.specs.ControlPump.{ServesStream}
 use Rattle.stream_pumps.specs.Pumps.{EndsUpdates, Opens, Serves}
-use Rattle.stream_pumps.specs.Rounds.{ComesUp, HearsUpdates, IsRound, Link, Rounds, ServesOne, ServesOneStream, TakesWhereUp, link_of}
+use Rattle.stream_pumps.specs.Rounds.{ComesUp, ReceivesUpdates, IsRound, Link, Rounds, ServesOne, ServesOneStream, TakesWhereUp, link_of}
 
 module _ (Connects Accepts : Option Link → Type 0) (facts : Facts) where
   rounds_more : (rounds : ℕ) (old then new : ProxyValue) (before link after : Option Link)
@@ -32,14 +32,14 @@ serves_at Accepts At facts old new there (inl (none, same)) = inl (there None no
 serves_at Accepts At facts old new there (inr (link, accepted, serves)) = inr (link, there (Some link) accepted, serves)
 
 -- what is connected by sockets is connected to the address
-hears_at : (Connects To : Option Link → Type 0) (old new : ProxyValue) (before after : Option Link)
-    → ((link : Option Link) → Connects link → To link) → HearsUpdates Connects old new before after
-    → HearsUpdates To old new before after
-hears_at Connects To old new before after to (HearsUpdates.up link is takes) = HearsUpdates.up link is takes
-hears_at Connects To old new before after to (HearsUpdates.connected link is connects comes) =
-    HearsUpdates.connected link is (to (Some link) connects) comes
-hears_at Connects To old new before after to (HearsUpdates.unreachable is connects ends none) =
-    HearsUpdates.unreachable is (to None connects) ends none
+receives_at : (Connects To : Option Link → Type 0) (old new : ProxyValue) (before after : Option Link)
+    → ((link : Option Link) → Connects link → To link) → ReceivesUpdates Connects old new before after
+    → ReceivesUpdates To old new before after
+receives_at Connects To old new before after to (ReceivesUpdates.up link is takes) = ReceivesUpdates.up link is takes
+receives_at Connects To old new before after to (ReceivesUpdates.connected link is connects comes) =
+    ReceivesUpdates.connected link is (to (Some link) connects) comes
+receives_at Connects To old new before after to (ReceivesUpdates.unreachable is connects ends none) =
+    ReceivesUpdates.unreachable is (to None connects) ends none
 
 pub rounds_at : (Connects To Accepts At : Option Link → Type 0) (facts : Facts) (rounds : ℕ) (old new : ProxyValue)
     (before after : Option Link) → ((link : Option Link) → Connects link → To link)
@@ -51,7 +51,7 @@ rounds_at Connects To Accepts At facts (suc rounds) old new before after to ther
   link,
   record {
     between = first.between;
-    hears = hears_at Connects To old first.between before link to first.hears;
+    receives = receives_at Connects To old first.between before link to first.receives;
     serves = serves_at Accepts At facts first.between next there first.serves;
   },
   rounds_at Connects To Accepts At facts rounds next new link after to there rest,
@@ -59,17 +59,17 @@ rounds_at Connects To Accepts At facts (suc rounds) old new before after to ther
 
 module _ {R W E : Type 0} (remaining : R → Option (List ℕ)) (contents : W → Option (List ℕ)) (ends : Result (R × W) E) where
   -- the update stream that was opened, or none
-  pub hears_of : (Connects : Option Link → Type 0) (old new : ProxyValue) (after : Option Link)
+  pub receives_of : (Connects : Option Link → Type 0) (old new : ProxyValue) (after : Option Link)
       → Connects (link_of remaining contents ends)
       → IfOk ends (λ e. ComesUp old new (remaining e.0, contents e.1) after)
-      → OnErr ends (EndsUpdates old new false × (after ≡ None)) → HearsUpdates Connects old new None after
-  hears_of Connects old new after connects up lost = hears ends connects up lost
+      → OnErr ends (EndsUpdates old new false × (after ≡ None)) → ReceivesUpdates Connects old new None after
+  receives_of Connects old new after connects up lost = receives ends connects up lost
     where
-      hears : (ends : Result (R × W) E) → Connects (link_of remaining contents ends)
+      receives : (ends : Result (R × W) E) → Connects (link_of remaining contents ends)
           → IfOk ends (λ e. ComesUp old new (remaining e.0, contents e.1) after)
-          → OnErr ends (EndsUpdates old new false × (after ≡ None)) → HearsUpdates Connects old new None after
-      hears (Ok e) connects up lost = HearsUpdates.connected _ refl connects up
-      hears (Err e) connects up lost = HearsUpdates.unreachable refl connects lost.0 lost.1
+          → OnErr ends (EndsUpdates old new false × (after ≡ None)) → ReceivesUpdates Connects old new None after
+      receives (Ok e) connects up lost = ReceivesUpdates.connected _ refl connects up
+      receives (Err e) connects up lost = ReceivesUpdates.unreachable refl connects lost.0 lost.1
 
   -- the connection that was accepted, or none
   pub serves_of : (Accepts : Option Link → Type 0) (facts : Facts) (old new : ProxyValue)

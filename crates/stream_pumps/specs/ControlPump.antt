@@ -40,7 +40,7 @@ GoesOn (no_memory bytes) = ⊥
 module _ (old new : ControlValue) (input input_new out out_new : Option (List ℕ)) where
   -- the control plane received the bytes that were read, in pieces, up to one that ended the stream; what it sent was
   -- written in order
-  pub record HearsRequests : Type 0 where
+  pub record ReceivesRequests : Type 0 where
     pub calls : List FeedCall
     pub done : FeedsDo old calls new
     pub on : AllButLast GoesOn calls
@@ -50,5 +50,5 @@ module _ (old new : ControlValue) (input input_new out out_new : Option (List �
 -- a stream was served to its end; then the control plane was informed that the stream is lost
 pub record ServesStream (old new : ControlValue) (input input_new out out_new : Option (List ℕ)) : Type 0 where
   pub between : ControlValue
-  pub hears : HearsRequests old between input input_new out out_new
-  pub told : new ≡ stream_lost between
+  pub receives : ReceivesRequests old between input input_new out out_new
+  pub reported : new ≡ stream_lost between

@@ -71,7 +71,7 @@ EndsUpdates between new false = new ≡ with_client between (stream_down between
 module _ (old new : ProxyValue) (input input_new out out_new : Option (List ℕ)) where
   -- the core received the opening of connection 0 and then the bytes that were read, in chunks. It received nothing
   -- after a call that closed the connection or ran out of memory. What the core put out was written in order
-  pub record Hears (facts : Facts) : Type 0 where
+  pub record ReceivesConnection (facts : Facts) : Type 0 where
     pub chunks : List (List ℕ)
     pub calls : List EventCall
     pub done : CallsDo old calls new
@@ -97,7 +97,7 @@ module _ (old new : ProxyValue) (input input_new out out_new : Option (List ℕ)
 -- a connection was served: the core received its bytes, and then its closing, after which its place is empty
 pub record Serves (old new : ProxyValue) (input input_new out out_new : Option (List ℕ)) (facts : Facts) : Type 0 where
   pub between : ProxyValue
-  pub hears : Hears old between input input_new out out_new facts
+  pub receives : ReceivesConnection old between input input_new out out_new facts
   pub closes : new ≡ with_conn between 0 None
 
 -- the core received the start of an update stream, and its first request was written, at least in part. If the stream

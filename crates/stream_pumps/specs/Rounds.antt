@@ -43,12 +43,12 @@ link_of remaining contents (Err e) = None
 -- the update stream in a round. If it is up, one response is taken; if it is not, it comes up first. If it cannot be
 -- connected, it is lost. `Connects` says which stream connecting gives, or that it gives none
 module _ (Connects : Option Link → Type 0) where
-  pub data HearsUpdates (old new : ProxyValue) (before after : Option Link) : Type 0 where
-    up : (link : Link) → before ≡ Some link → TakesOne old new link after → HearsUpdates old new before after
+  pub data ReceivesUpdates (old new : ProxyValue) (before after : Option Link) : Type 0 where
+    up : (link : Link) → before ≡ Some link → TakesOne old new link after → ReceivesUpdates old new before after
     connected : (link : Link) → before ≡ None → Connects (Some link) → ComesUp old new link after
-        → HearsUpdates old new before after
+        → ReceivesUpdates old new before after
     unreachable : before ≡ None → Connects None → EndsUpdates old new false → after ≡ None
-        → HearsUpdates old new before after
+        → ReceivesUpdates old new before after
 
 -- one connection with these facts was served, or none was accepted. `Accepts` says which is accepted, or that none is
 abbrev pub ServesOne : (Option Link → Type 0) → Facts → ProxyValue → ProxyValue → Type 0
@@ -60,7 +60,7 @@ module _ (Connects Accepts : Option Link → Type 0) (facts : Facts) where
   -- one round: the update stream first, then a connection
   pub record IsRound (old new : ProxyValue) (before after : Option Link) : Type 0 where
     pub between : ProxyValue
-    pub hears : HearsUpdates Connects old between before after
+    pub receives : ReceivesUpdates Connects old between before after
     pub serves : ServesOne Accepts facts between new
 
   -- this many rounds

@@ -2,7 +2,8 @@
 //! no contract describes it. A line is left out if there is no memory for it, or if the writer of the log fails.
 
 use crate::log_lines::{
-    End, StreamEvent, connection_value, judgement_value, request_value, sent_value, stream_value,
+    EndedBy, StreamEvent, connection_value, judgement_value, request_value, sent_value,
+    stream_value,
 };
 use ads::{Client, Ended, Exchange, Judgement};
 use program_texts::write_whole;
@@ -37,18 +38,18 @@ impl<W: Write + Drop> Log<W> {
     }
 
     /// Logs that the update stream came up, was unreachable, or was lost. If the client ended it, says why.
-    pub(crate) fn tell_stream(&mut self, event: StreamEvent) {
+    pub(crate) fn log_stream(&mut self, event: StreamEvent) {
         let ended = self.ended.take();
         if self.writer.is_some() {
             if let Ok(value) = stream_value(self.alloc, event, ended) {
-                self.tell(&value);
+                self.put_line(&value);
             }
         }
     }
 
     /// Logs how a proxy's client judged the responses that it received. If it ended the stream, the line on that tells
     /// why.
-    pub(crate) fn tell_judgements(
+    pub(crate) fn log_judgements(
         &mut self,
         judgements: Vec<Judgement>,
         ended: Option<Ended>,
@@ -60,40 +61,40 @@ impl<W: Write + Drop> Log<W> {
         }
         for judgement in &judgements {
             if let Ok(value) = judgement_value(self.alloc, judgement, client) {
-                self.tell(&value);
+                self.put_line(&value);
             }
         }
     }
 
     /// Logs the requests that a control plane received, each with the response that it sends for it.
-    pub(crate) fn tell_exchanges(&mut self, exchanges: Vec<Exchange>) {
+    pub(crate) fn log_exchanges(&mut self, exchanges: Vec<Exchange>) {
         if self.writer.is_none() {
             return;
         }
         for exchange in &exchanges {
             if let Ok(value) = request_value(self.alloc, exchange) {
-                self.tell(&value);
+                self.put_line(&value);
             }
             if let Some(sent) = &exchange.sent {
                 if let Ok(value) = sent_value(self.alloc, sent) {
-                    self.tell(&value);
+                    self.put_line(&value);
                 }
             }
         }
     }
 
     /// Logs that a connection ended, and who ended it.
-    pub(crate) fn tell_connection(&mut self, end: End) {
+    pub(crate) fn log_connection(&mut self, end: EndedBy) {
         self.connections = self.connections.saturating_add(1);
         if self.writer.is_some() {
             if let Ok(value) = connection_value(self.alloc, self.connections, end) {
-                self.tell(&value);
+                self.put_line(&value);
             }
         }
     }
 
     /// Writes a line.
-    fn tell(&mut self, value: &Value) {
+    fn put_line(&mut self, value: &Value) {
         let Some(writer) = &mut self.writer else {
             return;
         };

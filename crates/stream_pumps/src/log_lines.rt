@@ -1,13 +1,13 @@
 //! The lines of a log, as JSON objects. No contract describes them.
 
-use ads::{Client, Ended, Exchange, Judgement, Outcome, Refused, Sent, Word};
+use ads::{Client, Ended, Exchange, Judgement, Refused, ResponseOutcome, Sent, Word};
 use fault_texts::{StreamEnd, fault_of};
 use serde_json::{Value, json};
 use std::alloc::{AllocError, Global};
 
 /// Who ended a connection.
 #[derive(Clone, Copy)]
-pub(crate) enum End {
+pub(crate) enum EndedBy {
     /// The client closed it, or a read failed.
     Client,
     /// The proxy closed it, or a write failed, or memory ran out.
@@ -44,10 +44,14 @@ pub(crate) fn stream_value(
 }
 
 /// The line for the end of the connection with this number, counted from 1.
-pub(crate) fn connection_value(alloc: Global, number: u64, end: End) -> Result<Value, AllocError> {
+pub(crate) fn connection_value(
+    alloc: Global,
+    number: u64,
+    end: EndedBy,
+) -> Result<Value, AllocError> {
     let word = match end {
-        End::Client => "client",
-        End::Proxy => "proxy",
+        EndedBy::Client => "client",
+        EndedBy::Proxy => "proxy",
     };
     json!(in alloc; {"connection": number, "end": word})
 }
@@ -60,8 +64,8 @@ pub(crate) fn judgement_value(
     client: &Client,
 ) -> Result<Value, AllocError> {
     match &judgement.outcome {
-        Outcome::Accepted(_) => acknowledged_value(alloc, judgement, client.generation()),
-        Outcome::Refused(refused) => refused_value(alloc, judgement, refused, client),
+        ResponseOutcome::Accepted(_) => acknowledged_value(alloc, judgement, client.generation()),
+        ResponseOutcome::Refused(refused) => refused_value(alloc, judgement, refused, client),
     }
 }
 

@@ -5,12 +5,12 @@ ghost use Rattle.attributes.specs.Conn.{conn_view};
 ghost use Rattle.proxy_core.specs.Events.{ads_bytes, ads_up, event_view};
 ghost use Rattle.proxy_core.specs.Proxies.{proxy_view};
 ghost use Rattle.ads.specs.Ends.{control_view};
-ghost use Rattle.stream_pumps.specs.ControlPump.{HearsRequests, ServesStream};
-ghost use Rattle.stream_pumps.specs.Pumps.{EndsUpdates, Hears, Opens, Receives, Serves, TakesResponse};
-ghost use Rattle.stream_pumps.specs.private.Pumping.{Answers, Feeds, IsTurnOf, Updates};
+ghost use Rattle.stream_pumps.specs.ControlPump.{ReceivesRequests, ServesStream};
+ghost use Rattle.stream_pumps.specs.Pumps.{EndsUpdates, ReceivesConnection, Opens, Receives, Serves, TakesResponse};
+ghost use Rattle.stream_pumps.specs.private.Pumping.{Answers, Feeds, IsResultOf, Updates};
 
 use crate::log::Log;
-use crate::log_lines::End;
+use crate::log_lines::EndedBy;
 use ads::Control;
 use attributes::Conn;
 use program_texts::{read_some, write_whole};
@@ -34,45 +34,50 @@ pub fn serve_connection<R: Read, W: Write, L: Write + Drop>(
     ensures { Serves (proxy_view proxy.old) (proxy_view proxy.new) (R.remaining reader.old)
         (R.remaining reader.new) (W.contents writer.old) (W.contents writer.new) (conn_view conn.now) }
 {
-    let end = hear(proxy, conn, reader, writer);
+    let end = receive_connection(proxy, conn, reader, writer);
     let _ = proxy.step(Event::HttpClosed(0));
-    log.tell_connection(end);
+    log.log_connection(end);
 }
 
 /// Passes the core the opening of a connection and its bytes, and writes the answers. Returns who ended the connection.
-fn hear<R: Read, W: Write>(proxy: &mut Proxy, conn: &Conn, reader: &mut R, writer: &mut W) -> End
-    ensures { Hears (proxy_view proxy.old) (proxy_view proxy.new) (R.remaining reader.old)
+fn receive_connection<R: Read, W: Write>(
+    proxy: &mut Proxy,
+    conn: &Conn,
+    reader: &mut R,
+    writer: &mut W,
+) -> EndedBy
+    ensures { ReceivesConnection (proxy_view proxy.old) (proxy_view proxy.new) (R.remaining reader.old)
         (R.remaining reader.new) (W.contents writer.old) (W.contents writer.new) (conn_view conn.now) }
 {
     match answer(proxy, Event::HttpOpen(0, conn), writer) {
-        Turn::Ended => return End::Proxy,
+        EventResult::Ended => return EndedBy::Proxy,
         _ => {}
     }
     let mut room = [0u8; CHUNK];
     for _ in 0..u64::MAX {
         let count = count_of(reader, &mut room);
         if count == 0 {
-            return End::Client;
+            return EndedBy::Client;
         }
         match answer(proxy, Event::HttpBytes(0, &room[..count]), writer) {
-            Turn::Ended => return End::Proxy,
+            EventResult::Ended => return EndedBy::Proxy,
             _ => {}
         }
     }
-    End::Proxy
+    EndedBy::Proxy
 }
 
 /// Passes the core an event of a connection, and writes the answer.
-fn answer<W: Write>(proxy: &mut Proxy, event: Event<'_>, writer: &mut W) -> Turn
+fn answer<W: Write>(proxy: &mut Proxy, event: Event<'_>, writer: &mut W) -> EventResult
     ensures { Answers (proxy_view proxy.old) (proxy_view proxy.new) (W.contents writer.old) (W.contents writer.new)
         (event_view event.entry) result }
 {
     match proxy.step(event) {
         Ok(output) => match write_whole(writer, &output.http) {
-            Ok(()) => turn_of(&output.http, output.http_close),
-            Err(_) => Turn::Ended,
+            Ok(()) => result_of(&output.http, output.http_close),
+            Err(_) => EventResult::Ended,
         },
-        Err(AllocError) => Turn::Ended,
+        Err(AllocError) => EventResult::Ended,
     }
 }
 
@@ -89,7 +94,7 @@ fn count_of<R: Read>(reader: &mut R, room: &mut [u8]) -> usize
 
 /// The result of an event.
 #[derive(Clone, Copy)]
-enum Turn {
+enum EventResult {
     /// Nothing was answered.
     Waits,
     /// Something was answered.
@@ -99,16 +104,16 @@ enum Turn {
 }
 
 /// The result of an event for which these bytes were written.
-fn turn_of(written: &[u8], closes: bool) -> Turn
-    ensures { IsTurnOf written.now closes result }
+fn result_of(written: &[u8], closes: bool) -> EventResult
+    ensures { IsResultOf written.now closes result }
 {
     if closes {
-        return Turn::Ended;
+        return EventResult::Ended;
     }
     if written.is_empty() {
-        return Turn::Waits;
+        return EventResult::Waits;
     }
-    Turn::Answered
+    EventResult::Answered
 }
 
 /// Passes the core the event that the update stream comes up, and writes the first request. Returns whether the stream
@@ -117,7 +122,7 @@ pub fn open_updates<W: Write>(proxy: &mut Proxy, writer: &mut W) -> bool
     ensures { Opens (proxy_view proxy.old) (proxy_view proxy.new) (W.contents writer.old) (W.contents writer.new) result }
 {
     match bring_up(proxy, writer) {
-        Turn::Ended => lose(proxy),
+        EventResult::Ended => lose(proxy),
         _ => true,
     }
 }
@@ -143,7 +148,7 @@ pub fn take_response<R: Read, W: Write, L: Write + Drop>(
 /// Passes the core the loss of the update stream. Returns `false`: the stream is not up.
 pub(crate) fn lose(proxy: &mut Proxy) -> bool
     ensures down { result ≡ false }
-    ensures told { EndsUpdates (proxy_view proxy.old) (proxy_view proxy.new) false }
+    ensures reported { EndsUpdates (proxy_view proxy.old) (proxy_view proxy.new) false }
 {
     let _ = proxy.step(Event::AdsLost);
     false
@@ -169,25 +174,25 @@ fn receive<R: Read, W: Write, L: Write + Drop>(
             return false;
         }
         match update(proxy, &part[..count], writer, log) {
-            Turn::Answered => return true,
-            Turn::Ended => return false,
-            Turn::Waits => {}
+            EventResult::Answered => return true,
+            EventResult::Ended => return false,
+            EventResult::Waits => {}
         }
     }
     false
 }
 
 /// Passes the core the event that the update stream comes up, and writes the first request.
-fn bring_up<W: Write>(proxy: &mut Proxy, writer: &mut W) -> Turn
+fn bring_up<W: Write>(proxy: &mut Proxy, writer: &mut W) -> EventResult
     ensures { Updates (proxy_view proxy.old) (proxy_view proxy.new) (W.contents writer.old) (W.contents writer.new)
         ads_up result }
 {
     match proxy.step(Event::AdsUp) {
         Ok(output) => match write_whole(writer, &output.ads) {
-            Ok(()) => turn_of(&output.ads, output.ads_close),
-            Err(_) => Turn::Ended,
+            Ok(()) => result_of(&output.ads, output.ads_close),
+            Err(_) => EventResult::Ended,
         },
-        Err(AllocError) => Turn::Ended,
+        Err(AllocError) => EventResult::Ended,
     }
 }
 
@@ -197,19 +202,19 @@ fn update<W: Write, L: Write + Drop>(
     bytes: &[u8],
     writer: &mut W,
     log: &mut Log<L>,
-) -> Turn
+) -> EventResult
     ensures { Updates (proxy_view proxy.old) (proxy_view proxy.new) (W.contents writer.old) (W.contents writer.new)
         (ads_bytes bytes.now) result }
 {
-    match proxy.hear_updates(bytes) {
+    match proxy.receive_updates(bytes) {
         Ok((output, judgements, ended)) => {
-            log.tell_judgements(judgements, ended, proxy.client());
+            log.log_judgements(judgements, ended, proxy.client());
             match write_whole(writer, &output.ads) {
-                Ok(()) => turn_of(&output.ads, output.ads_close),
-                Err(_) => Turn::Ended,
+                Ok(()) => result_of(&output.ads, output.ads_close),
+                Err(_) => EventResult::Ended,
             }
         }
-        Err(AllocError) => Turn::Ended,
+        Err(AllocError) => EventResult::Ended,
     }
 }
 
@@ -225,18 +230,18 @@ pub fn serve_stream<R: Read, W: Write, L: Write + Drop>(
     ensures { ServesStream (control_view control.old) (control_view control.new) (R.remaining reader.old)
         (R.remaining reader.new) (W.contents writer.old) (W.contents writer.new) }
 {
-    hear_requests(control, reader, writer, log);
+    receive_requests(control, reader, writer, log);
     control.lost();
 }
 
 /// Passes a control plane the bytes of its stream, and writes the answers.
-fn hear_requests<R: Read, W: Write, L: Write + Drop>(
+fn receive_requests<R: Read, W: Write, L: Write + Drop>(
     control: &mut Control,
     reader: &mut R,
     writer: &mut W,
     log: &mut Log<L>,
 )
-    ensures { HearsRequests (control_view control.old) (control_view control.new) (R.remaining reader.old)
+    ensures { ReceivesRequests (control_view control.old) (control_view control.new) (R.remaining reader.old)
         (R.remaining reader.new) (W.contents writer.old) (W.contents writer.new) }
 {
     let mut room = [0u8; CHUNK];
@@ -264,7 +269,7 @@ fn feed<W: Write, L: Write + Drop>(
 {
     match control.feed(bytes) {
         Ok(fed) => {
-            log.tell_exchanges(fed.exchanges);
+            log.log_exchanges(fed.exchanges);
             match write_whole(writer, &fed.replies) {
                 Ok(()) => fed.ended.is_none(),
                 Err(_) => false,

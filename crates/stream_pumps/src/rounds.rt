@@ -3,7 +3,7 @@ ghost use Rattle.std.specs.Prelude.{◌≡◌, false, List, None, Option, Some, 
 ghost use Rattle.attributes.specs.Conn.{conn_view};
 ghost use Rattle.proxy_core.specs.Proxies.{proxy_view};
 ghost use Rattle.stream_pumps.specs.Pumps.{EndsUpdates, Serves};
-ghost use Rattle.stream_pumps.specs.Rounds.{ComesUp, HearsUpdates, Link, Rounds, TakesOne, link_of};
+ghost use Rattle.stream_pumps.specs.Rounds.{ComesUp, ReceivesUpdates, Link, Rounds, TakesOne, link_of};
 
 use crate::log::Log;
 use crate::log_lines::StreamEvent;
@@ -50,19 +50,19 @@ pub fn serve_rounds<S: Streams, L: Write + Drop>(
 {
     let mut link = None;
     for _ in 0..rounds {
-        link = hear_updates(proxy, link, streams, log);
+        link = receive_updates(proxy, link, streams, log);
         serve_one(proxy, conn, streams.accept(), log);
     }
 }
 
 /// Takes one response of the update stream, which comes up first if it is down. Returns the stream, unless it is lost.
-fn hear_updates<S: Streams, L: Write + Drop>(
+fn receive_updates<S: Streams, L: Write + Drop>(
     proxy: &mut Proxy,
     link: Option<(S::Reader, S::Writer)>,
     streams: &S,
     log: &mut Log<L>,
 ) -> Option<(S::Reader, S::Writer)>
-    ensures { HearsUpdates (S.connects streams.now) (proxy_view proxy.old) (proxy_view proxy.new)
+    ensures { ReceivesUpdates (S.connects streams.now) (proxy_view proxy.old) (proxy_view proxy.new)
         (option_map (λ l. (S.Reader.remaining l.0, S.Writer.contents l.1)) link)
         (option_map (λ l. (S.Reader.remaining l.0, S.Writer.contents l.1)) result) }
 {
@@ -85,7 +85,7 @@ fn take_one<R: Read + Drop, W: Write + Drop, L: Write + Drop>(
     match take_response(proxy, &mut reader, &mut writer, log) {
         true => Some((reader, writer)),
         false => {
-            log.tell_stream(StreamEvent::Lost);
+            log.log_stream(StreamEvent::Lost);
             None
         }
     }
@@ -107,17 +107,17 @@ fn come_up<R: Read + Drop, W: Write + Drop, L: Write + Drop>(
     match connected {
         Ok((reader, mut writer)) => match open_updates(proxy, &mut writer) {
             true => {
-                log.tell_stream(StreamEvent::Up);
+                log.log_stream(StreamEvent::Up);
                 take_one(proxy, (reader, writer), log)
             }
             false => {
-                log.tell_stream(StreamEvent::Lost);
+                log.log_stream(StreamEvent::Lost);
                 None
             }
         },
         Err(_) => {
             lose(proxy);
-            log.tell_stream(StreamEvent::Unreachable);
+            log.log_stream(StreamEvent::Unreachable);
             None
         }
     }

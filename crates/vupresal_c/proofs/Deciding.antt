@@ -55,12 +55,12 @@ pub decided : (answer : Result Verdict Fault) (Asks : Asking) (a : Admitted) (st
     → IfOk answer (λ v. (status ≡ done) × (d ≡ decision_of v))
     → IfErr answer (λ e. (status ≡ status_of e) × (status ≢ done) × (d ≡ refused))
     → IfOk answer (IsAnswer Asks a) → status ≡ done → IsDecision Asks a d
-decided (Ok v) Asks a status d told failed found is = rw told.1 (decision_is Asks a v found)
-decided (Err e) Asks a status d told failed found is = absurd (failed.1 is)
+decided (Ok v) Asks a status d reported failed found is = rw reported.1 (decision_is Asks a v found)
+decided (Err e) Asks a status d reported failed found is = absurd (failed.1 is)
 
 -- what C gets of this fault
-pub told : (answer : Result Verdict Fault) (e : Fault) (status : ℤ) (d : Decision)
+pub reported : (answer : Result Verdict Fault) (e : Fault) (status : ℤ) (d : Decision)
     → IfErr answer (λ other. (status ≡ status_of other) × (status ≢ done) × (d ≡ refused))
     → answer ≡ Err e → status ≡ status_of e
-told (Ok v) e status d failed is = absurd cc
-told (Err other) e status d failed is = let same : other ≡ e = cc in rw (← same) failed.0
+reported (Ok v) e status d failed is = absurd cc
+reported (Err other) e status d failed is = let same : other ≡ e = cc in rw (← same) failed.0

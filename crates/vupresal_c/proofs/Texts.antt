@@ -13,7 +13,7 @@ text_at (x ∷ xs) (suc i) d within (one, all) = text_at xs i d (omega arith) al
 -- one name that is no text
 pub no_texts : (xs : List Resource) (i : ℕ) (d : Resource) (e : Fault) → i < length xs
     → TextFails (IsUtf8 (get_or xs i d).name.now) e → TextFails (AreTexts xs) e
-no_texts xs i d e within told = elim told [
+no_texts xs i d e within reported = elim reported [
   | inl memory ↦ inl memory
   | inr (is, none) ↦ inr (is, λ all. none (text_at xs i d within all))
 ]

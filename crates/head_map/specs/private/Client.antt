@@ -19,7 +19,7 @@ client_view c = record {
 }
 
 -- `new` is the client `old`, after the named fields of these lines said what they say
-pub record IsToldBy (lines : List Entry) (named : List NamedFact) (old new : ClientValue) : Type 0 where
+pub record IsClaimedBy (lines : List Entry) (named : List NamedFact) (old new : ClientValue) : Type 0 where
   pub claims : List Claim
   pub say : AllZip (Says lines) named claims
   pub value : new ≡ put_all claims old

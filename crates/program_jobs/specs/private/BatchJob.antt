@@ -10,7 +10,7 @@ use Rattle.rbac_policy.specs.Admitted.{filter_view, limits_view}
 use Rattle.rbac_judge.specs.Batches.{IsBatch, IsCutShort}
 use Rattle.rbac_judge.specs.Judging.{IsRefusedFor}
 use Rattle.rbac_judge.specs.private.Batching.{OfPolicies}
-use Rattle.rbac_judge.specs.declared.batch.Basis.{Basis}
+use Rattle.rbac_judge.specs.declared.batch.BatchSettings.{BatchSettings}
 use Rattle.program_texts.specs.declared.replay_fault.ReplayFault.{ReplayFault}
 use Rattle.program_jobs.specs.Jobs.{IsConnOf, LeavesFault, LeavesReplay}
 use Rattle.program_jobs.specs.declared.batch_job.Start.{Start}
@@ -31,7 +31,7 @@ module _ (holds : List ℕ → List ℕ → Type 0) (lacks : (List ℕ × IoErro
       × IsRefusedFor policy words.budget reason
 
 -- the lines of the input were answered, up to its end or to a fault; or memory ran out before
-module _ (basis : Basis) (input out out_new errors errors_new : Option (List ℕ)) (status : ℕ) where
+module _ (basis : BatchSettings) (input out out_new errors errors_new : Option (List ℕ)) (status : ℕ) where
   pub data EndsLines : Type 0 where
     whole : (input_new : Option (List ℕ)) → OfPolicies (filter_view basis.admitted) (λ policy budget.
         IsBatch policy budget (conn_view basis.conn) basis.explain input out input_new out_new)

@@ -1,7 +1,7 @@
 -- What is printed of the result of a job that has a report.
 use Rattle.std.specs.Prelude.{◌⊎◌, Bool, List, Ok, Err, Option, Result, ℕ}
 use Rattle.program_jobs.specs.Jobs.{Leaves, LeavesFault, PrintsReport}
-use Rattle.rbac_judge.specs.private.Printed.{IsPrintedFor, told_with}
+use Rattle.rbac_judge.specs.private.Printed.{IsPrintedFor, with_why}
 use Rattle.program_jobs.specs.declared.job_fault.JobFault.{JobFault}
 use Rattle.program_jobs.specs.declared.job_fault.JobFault.TheVariants as faults
 use Rattle.rbac_judge.specs.declared.json.Why.{Why}
@@ -13,7 +13,7 @@ module _ (out out_new errors errors_new : Option (List ℕ)) (status : ℕ) wher
   pub record EndsWith (report : Report) : Type 0 where
     pub why : Why
     pub printed : Report
-    pub same : IsPrintedFor (told_with why report) printed
+    pub same : IsPrintedFor (with_why why report) printed
     pub left : PrintsReport out out_new errors errors_new status printed
 
   -- the result is printed; or memory ran out for that

@@ -11,7 +11,7 @@ use Rattle.program_texts.specs.declared.replay_fault.ReplayFault.TheVariants as 
 -- the text is the answer to the event of the line; it is empty if the event is not seen
 pub record Answers (only : Option ℕ) (old : ProxyValue) (line text : List ℕ) (new : ProxyValue) : Type 0 where
   pub calls : List EventCall
-  pub told : AreCallsOf only (line ∷ []) calls
+  pub reported : AreCallsOf only (line ∷ []) calls
   pub does : CallsDo old calls new
   pub same : text ≡ printed_of calls
 
@@ -19,7 +19,7 @@ pub record Answers (only : Option ℕ) (old : ProxyValue) (line text : List ℕ)
 pub record PrintsAnswer (only : Option ℕ) (old : ProxyValue) (line : List ℕ) (out : Option (List ℕ)) (new : ProxyValue)
     (out_new : Option (List ℕ)) : Type 0 where
   pub calls : List EventCall
-  pub told : AreCallsOf only (line ∷ []) calls
+  pub reported : AreCallsOf only (line ∷ []) calls
   pub does : CallsDo old calls new
   pub printed : Appends out out_new (printed_of calls)
 

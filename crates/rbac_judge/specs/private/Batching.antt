@@ -73,7 +73,7 @@ module _ (enforced : Filter Program) (explain : Bool) where
   pub record IsReportAt (absent : Facts) (d : Data) (report : Report) : Type 0 where
     pub head : List ℕ
     pub facts : Facts
-    pub told : IsHead absent d head facts
+    pub reported : IsHead absent d head facts
     pub fits : FactsInLimits facts largest
     pub is : IsReportOf head facts report
 

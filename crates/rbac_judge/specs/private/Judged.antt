@@ -13,7 +13,7 @@ use Rattle.rbac_policy.specs.Condition.{Program, is_met}
 use Rattle.rbac_policy.specs.Filter.{Filter}
 use Rattle.rbac_policy.specs.Verdict.{IsVerdict}
 use Rattle.rbac_judge.specs.Explain.{Explains}
-use Rattle.rbac_judge.specs.Json.{untold}
+use Rattle.rbac_judge.specs.Json.{no_cause}
 use Rattle.rbac_judge.specs.Judging.{IsOutcomeOf}
 use Rattle.rbac_judge.specs.declared.explain.Explanation.{Explanation}
 use Rattle.rbac_judge.specs.declared.explain.Explanation.TheVariants as explanations
@@ -44,7 +44,7 @@ report_with json finding = record {
   name = finding.name;
   json = json;
   explanation = finding.explanation;
-  why = untold;
+  why = no_cause;
 }
 
 -- the outcome is the filter's answer to the request

@@ -8,8 +8,8 @@ use Rattle.rbac_judge.specs.declared.outcome.Outcome.TheVariants as outcomes
 use Rattle.rbac_judge.specs.declared.report.Report.{Report}
 
 -- the report, with why it is no verdict
-abbrev pub told_with : Why → Report → Report
-told_with why report = record report { why = why }
+abbrev pub with_why : Why → Report → Report
+with_why why report = record report { why = why }
 
 -- the report that memory ran out, printed in the same form
 abbrev pub without_memory : Report → Report
@@ -19,13 +19,13 @@ without_memory report = record report {
 }
 
 -- the explanation if no memory is left for its trials
-abbrev pub less_told : Explanation → Explanation
-less_told (explanations.Trials trials) = explanations.Untold errors.Memory
-less_told explanation = explanation
+abbrev pub without_trials : Explanation → Explanation
+without_trials (explanations.Trials trials) = explanations.Unavailable errors.Memory
+without_trials explanation = explanation
 
 -- the report without its trials
 abbrev pub unexplained : Report → Report
-unexplained report = record report { explanation = less_told report.explanation }
+unexplained report = record report { explanation = without_trials report.explanation }
 
 -- what is printed for a report: the report, the report without its trials, or the report that memory ran out
 abbrev pub IsPrintedFor : Report → Report → Type 0

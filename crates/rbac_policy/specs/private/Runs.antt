@@ -14,33 +14,33 @@ RunsAs r program is_true = (answer : CelAnswer) × (steps : ℕ) × Ends program
     × (steps ≤ program.bound) × (is_true ≡ came_true (Some answer))
 
 -- whether the policy matches, by its sides, and then by the run of its condition
-abbrev pub Tells : RequestValue → Policy Program → Bool → Type 0
-Tells r p matches = ((sides_match r p ≡ false) × (matches ≡ false))
+abbrev pub MatchesByRun : RequestValue → Policy Program → Bool → Type 0
+MatchesByRun r p matches = ((sides_match r p ≡ false) × (matches ≡ false))
     ⊎ ((sides_match r p ≡ true)
     × MatchOption p.condition (matches ≡ true) (λ program. RunsAs r program matches))
 
 -- none of the policies matches
 abbrev pub HaveFailed : RequestValue → List (Policy Program) → Type 0
-HaveFailed r ps = AllByRecursion (λ p. Tells r p false) ps
+HaveFailed r ps = AllByRecursion (λ p. MatchesByRun r p false) ps
 
 -- the number of the first policy that matches, if the first policy has the number `i`
 abbrev pub IsFirst : RequestValue → ℕ → List (Policy Program) → Option ℕ → Type 0
 IsFirst r i [] first = first ≡ None
 IsFirst r i (p ∷ ps) first =
-    (Tells r p true × (first ≡ Some i)) ⊎ (Tells r p false × IsFirst r (i + 1) ps first)
+    (MatchesByRun r p true × (first ≡ Some i)) ⊎ (MatchesByRun r p false × IsFirst r (i + 1) ps first)
 
 -- the policy's sides match, and `P` holds of its condition's program
 abbrev pub Asks : (Program → Type 0) → RequestValue → Policy Program → Type 0
 Asks P r p = (sides_match r p ≡ true) × IsSomeAnd p.condition P
 
 -- the same for one of the policies, if no policy before it matches
-abbrev pub SomeAsks : (Program → Type 0) → RequestValue → List (Policy Program) → Type 0
-SomeAsks P r [] = ⊥
-SomeAsks P r (p ∷ ps) = Asks P r p ⊎ (Tells r p false × SomeAsks P r ps)
+abbrev pub OnePolicyAsks : (Program → Type 0) → RequestValue → List (Policy Program) → Type 0
+OnePolicyAsks P r [] = ⊥
+OnePolicyAsks P r (p ∷ ps) = Asks P r p ⊎ (MatchesByRun r p false × OnePolicyAsks P r ps)
 
 -- the program's run takes more steps than its bound
-abbrev pub PassesBound : RequestValue → Program → Type 0
-PassesBound r program = RunsOut program.code r program.bound
+abbrev pub ExceedsBound : RequestValue → Program → Type 0
+ExceedsBound r program = RunsOut program.code r program.bound
 
 -- this holds of every program
 abbrev pub AnyProgram : Program → Type 0

@@ -7,18 +7,18 @@ use Rattle.proxy_core.specs.Step.{CallDoes, EventCall, ProxyValue, event_of}
 use Rattle.stream_pumps.specs.ControlPump.{FeedCall, FeedDoes, GoesOn, bytes_of, replies_of}
 use Rattle.program_texts.specs.Output.{Takes}
 use Rattle.stream_pumps.specs.Pumps.{Responds, StaysOpen, StaysUp, Waits, ads_of, http_of}
-use Rattle.stream_pumps.specs.declared.pumps.Turn.{Turn}
-use Rattle.stream_pumps.specs.declared.pumps.Turn.TheVariants as turns
+use Rattle.stream_pumps.specs.declared.pumps.EventResult.{EventResult}
+use Rattle.stream_pumps.specs.declared.pumps.EventResult.TheVariants as turns
 
 -- the result of an event for which these bytes were written, and after which the stream or connection is closed or not
-abbrev pub IsTurnOf : List ℕ → Bool → Turn → Type 0
-IsTurnOf written closes turns.Ended = closes ≡ true
-IsTurnOf written closes turns.Waits = (closes ≡ false) × (written ≡ [])
-IsTurnOf written closes turns.Answered = (closes ≡ false) × (written ≢ [])
+abbrev pub IsResultOf : List ℕ → Bool → EventResult → Type 0
+IsResultOf written closes turns.Ended = closes ≡ true
+IsResultOf written closes turns.Waits = (closes ≡ false) × (written ≡ [])
+IsResultOf written closes turns.Answered = (closes ≡ false) × (written ≢ [])
 
 -- the core received this event of a connection, and what it put out was written, at least in part. If the connection is
 -- not at its end, everything was written, and the connection stays open
-pub record Answers (old new : ProxyValue) (out out_new : Option (List ℕ)) (event : EventValue) (turn : Turn)
+pub record Answers (old new : ProxyValue) (out out_new : Option (List ℕ)) (event : EventValue) (turn : EventResult)
     : Type 0 where
   pub call : EventCall
   pub given : event_of call ≡ event
@@ -28,7 +28,7 @@ pub record Answers (old new : ProxyValue) (out out_new : Option (List ℕ)) (eve
 
 -- the core received this event of the update stream, and what it put out was written, at least in part. If the stream
 -- is not at its end, everything was written, and the stream stays up. The result says whether it was answered
-pub record Updates (old new : ProxyValue) (out out_new : Option (List ℕ)) (event : EventValue) (turn : Turn)
+pub record Updates (old new : ProxyValue) (out out_new : Option (List ℕ)) (event : EventValue) (turn : EventResult)
     : Type 0 where
   pub call : EventCall
   pub given : event_of call ≡ event

@@ -8,8 +8,8 @@ use Rattle.ads.proofs.reply.put_nack.Goals as goal
 
 pub returns : goal.returns
 returns c =
-    let told : status_view c.status_of.result ≡ status_of c.args.refusal =
+    let reported : status_view c.status_of.result ≡ status_of c.args.refusal =
     rw (← c.in_ok-message.ensures, ← c.deref.ensures) c.status_of.ensures in
     subst (λ m. OnOk c.put_frame.result (AddsFrame m c.args.out.now.items c.put_frame.new.out.items))
     (with_error c.args.config.now c.args.version.now c.args.nonce.now (request_view c.in_ok-request.request)
-    (status_of c.args.refusal) (status_view c.status_of.result) c.in_ok-request.ensures told) c.put_frame.ensures
+    (status_of c.args.refusal) (status_view c.status_of.result) c.in_ok-request.ensures reported) c.put_frame.ensures

@@ -8,7 +8,7 @@ pub loop-fault-preserved : goal.loop-fault-preserved
 loop-fault-preserved c =
     All-more (λ fault. ¬ (HasPathFault fault c.args.path.now)) c.args.faults.now
     c.loop-fault.fault-index _ c.loop-fault-test.true c.loop-fault.invariant
-    (λ has. let told : c.is_in.result ≡ true = c.is_in.ensures.1 has in absurd cc)
+    (λ has. let claim : c.is_in.result ≡ true = c.is_in.ensures.1 has in absurd cc)
 
 pub returns : goal.returns
 returns c =

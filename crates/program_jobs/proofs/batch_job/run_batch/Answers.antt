@@ -15,6 +15,6 @@ returns-in-Ok-Refused g c =
 
 pub returns-in-Err : goal.returns-in-Err
 returns-in-Err g c =
-    let told = c.report_of.ensures in
+    let reported = c.report_of.ensures in
     ends_of_fault _ _ _ _ _ _ _ _ _ c.in-Err.fault c.report_of.result (c.in-Err.ensures.fault _)
-    (λ memory. told.memory (ap Err memory)) told.others c.end_result-in-Err.ensures
+    (λ memory. reported.memory (ap Err memory)) reported.others c.end_result-in-Err.ensures

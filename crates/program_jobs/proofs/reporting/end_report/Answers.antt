@@ -3,12 +3,12 @@ use Rattle.program_jobs.proofs.reporting.end_report.Goals as goal
 
 pub returns-in-Ok : goal.returns-in-Ok
 returns-in-Ok g c =
-    let same = rw c.told.ensures at c.in-Ok.ensures.same in
+    let same = rw c.with_why.ensures at c.in-Ok.ensures.same in
     record {
       why = c.why-why.result;
       printed = c.in-Ok.printed;
       same = same;
-      left = inl (c.status.ensures, c.in-Ok.ensures.text, c.tell_below.ensures);
+      left = inl (c.status.ensures, c.in-Ok.ensures.text, c.write_notes.ensures);
     }
 
 pub returns-in-Err : goal.returns-in-Err
@@ -17,6 +17,6 @@ returns-in-Err g c =
     record {
       why = c.why-why.result;
       printed = printed;
-      same = rw c.told.ensures at same;
-      left = inr (c.tell_output.ensures, part);
+      same = rw c.with_why.ensures at same;
+      left = inr (c.write_output_fault.ensures, part);
     }

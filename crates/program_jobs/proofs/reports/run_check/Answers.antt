@@ -5,7 +5,7 @@ pub returns : goal.returns
 returns g c =
     let found = rw c.as_str.ensures.value at c.check_file-finding.ensures.found in
     let fault = rw c.as_str.ensures.value at c.check_file-finding.ensures.fault in
-    let told = c.report_of-found.ensures in
+    let reported = c.report_of-found.ensures in
     end_of_check _ _ _ _ _ _ _ c.args.words.now c.report_of-found.result
-    (checks_to _ _ c.args.words.now c.check_file-finding.result c.report_of-found.result found c.check_file-finding.ensures.bare fault told.kept told.memory told.others)
+    (checks_to _ _ c.args.words.now c.check_file-finding.result c.report_of-found.result found c.check_file-finding.ensures.bare fault reported.kept reported.memory reported.others)
     c.end_result.ensures

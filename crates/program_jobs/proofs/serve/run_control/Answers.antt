@@ -11,5 +11,5 @@ returns-in-Err-acknowledged_text g c = EndsControl.memory c.end_by_memory.ensure
 
 pub returns-in-Err : goal.returns-in-Err
 returns-in-Err g c =
-    let (told, same, left) = c.end_by.ensures in
-    end_of_control _ _ _ _ _ _ _ _ _ c.args.words.now c.in-Err.fault told c.in-Err.ensures.fault same left
+    let (reported, same, left) = c.end_by.ensures in
+    end_of_control _ _ _ _ _ _ _ _ _ c.args.words.now c.in-Err.fault reported c.in-Err.ensures.fault same left

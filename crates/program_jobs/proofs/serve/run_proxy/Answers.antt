@@ -8,5 +8,5 @@ returns-in-Ok g c = EndsProxy.served c.in-Ok.ensures.found refl refl refl
 
 pub returns : goal.returns
 returns g c =
-    let (told, same, left) = c.end_by.ensures in
-    end_of_proxy _ _ _ _ _ _ _ _ _ c.args.words c.in-Err.fault told c.in-Err.ensures.fault same left
+    let (reported, same, left) = c.end_by.ensures in
+    end_of_proxy _ _ _ _ _ _ _ _ _ c.args.words c.in-Err.fault reported c.in-Err.ensures.fault same left

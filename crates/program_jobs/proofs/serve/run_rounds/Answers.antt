@@ -49,7 +49,7 @@ pub returns-clause-found : goal.returns-clause-found
 returns-clause-found g c = record {
   c = _;
   facts = _;
-  set_up = record {
+  configured = record {
     config = rw c.as_str.ensures.value at c.in_ok-config.ensures.found;
     conn = c.in_ok-conn.ensures.found.0;
     fits = rw c.limits.ensures at c.in_ok-conn.ensures.found.1;

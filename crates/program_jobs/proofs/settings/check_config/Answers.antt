@@ -10,5 +10,5 @@ returns-in-Ok g c = EndsConfig.memory c.end_by_memory.ensures
 
 pub returns : goal.returns
 returns g c =
-    let (told, same, left) = c.end_by.ensures in
-    end_of_config _ _ _ _ _ _ _ _ c.in-Err.fault told c.in-Err.ensures.fault same left
+    let (reported, same, left) = c.end_by.ensures in
+    end_of_config _ _ _ _ _ _ _ _ c.in-Err.fault reported c.in-Err.ensures.fault same left

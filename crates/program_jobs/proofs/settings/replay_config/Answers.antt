@@ -15,6 +15,6 @@ returns-in-Ok g c =
 
 pub returns : goal.returns
 returns g c =
-    let (told, same, left) = c.end_by.ensures in
+    let (reported, same, left) = c.end_by.ensures in
     let fault = rw c.as_str.ensures.value at c.in-Err.ensures.fault in
-    end_of_replay _ _ _ _ _ _ _ _ _ _ c.in-Err.fault told fault same left
+    end_of_replay _ _ _ _ _ _ _ _ _ _ c.in-Err.fault reported fault same left

@@ -6,7 +6,7 @@ returns-clause-fault g c = elim c.in-Err.ensures.fault [
   | inl memory ↦ inl (c.stop_by_response.ensures.memory memory)
   | inr none ↦ elim c.stop_by_response.ensures.file [
     | inl memory ↦ inl memory
-    | inr told ↦ inr (inr (rw told.1 (
+    | inr reported ↦ inr (inr (rw reported.1 (
       c.in_ok-from_str-in-Err.ensures.ok,
       (c.in_ok-bytes.bytes.items, c.in_ok-bytes.ensures.found, rw c.deref.ensures.value at none),
     )))

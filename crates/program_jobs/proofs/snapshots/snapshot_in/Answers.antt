@@ -12,7 +12,7 @@ returns-clause-found c =
 pub returns-clause-fault : goal.returns-clause-fault
 returns-clause-fault c =
     IfErr-weaker c.snapshot_of.result _ _
-    (λ e told. elim told [
+    (λ e reported. elim reported [
       | inl memory ↦ inl memory
       | inr none ↦ inr (λ snapshot held. none snapshot
           (subst (λ m. IsResponseWith m snapshot)

@@ -8,7 +8,7 @@ returns-in_err-scheme-clause-fault c =
     let p = err_from_is_err_and c.from_residual.result c.from_residual.ensures.1 in
     rw (p.1, p.2) (
       c.in_err-scheme.ensures.fault.0,
-      λ scheme told. c.in_err-scheme.ensures.fault.1 told.0 told.1,
+      λ scheme reported. c.in_err-scheme.ensures.fault.1 reported.0 reported.1,
     )
 
 pub returns-in-Some-clause-found : goal.returns-in-Some-clause-found

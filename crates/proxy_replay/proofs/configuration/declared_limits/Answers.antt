@@ -7,32 +7,32 @@ use Rattle.proxy_replay.proofs.configuration.declared_limits.Goals as goal
 pub returns-in_err-fields-clause-fault : goal.returns-in_err-fields-clause-fault
 returns-in_err-fields-clause-fault c =
     let p = err_from_is_err_and c.from_residual-in_err-fields.result c.from_residual-in_err-fields.ensures.1 in
-    rw p.1 (λ l told. c.in_err-fields.ensures.fault _ (told.each Limit.Fields))
+    rw p.1 (λ l reported. c.in_err-fields.ensures.fault _ (reported.each Limit.Fields))
 
 pub returns-in_err-name-clause-fault : goal.returns-in_err-name-clause-fault
 returns-in_err-name-clause-fault c =
     let p = err_from_is_err_and c.from_residual-in_err-name.result c.from_residual-in_err-name.ensures.1 in
-    rw p.1 (λ l told. c.in_err-name.ensures.fault _ (told.each Limit.Name))
+    rw p.1 (λ l reported. c.in_err-name.ensures.fault _ (reported.each Limit.Name))
 
 pub returns-in_err-value-clause-fault : goal.returns-in_err-value-clause-fault
 returns-in_err-value-clause-fault c =
     let p = err_from_is_err_and c.from_residual-in_err-value.result c.from_residual-in_err-value.ensures.1 in
-    rw p.1 (λ l told. c.in_err-value.ensures.fault _ (told.each Limit.Value))
+    rw p.1 (λ l reported. c.in_err-value.ensures.fault _ (reported.each Limit.Value))
 
 pub returns-in_err-method-clause-fault : goal.returns-in_err-method-clause-fault
 returns-in_err-method-clause-fault c =
     let p = err_from_is_err_and c.from_residual-in_err-method.result c.from_residual-in_err-method.ensures.1 in
-    rw p.1 (λ l told. c.in_err-method.ensures.fault _ (told.each Limit.Method))
+    rw p.1 (λ l reported. c.in_err-method.ensures.fault _ (reported.each Limit.Method))
 
 pub returns-in_err-target-clause-fault : goal.returns-in_err-target-clause-fault
 returns-in_err-target-clause-fault c =
     let p = err_from_is_err_and c.from_residual-in_err-target.result c.from_residual-in_err-target.ensures.1 in
-    rw p.1 (λ l told. c.in_err-target.ensures.fault _ (told.each Limit.Target))
+    rw p.1 (λ l reported. c.in_err-target.ensures.fault _ (reported.each Limit.Target))
 
 pub returns-in_err-text-clause-fault : goal.returns-in_err-text-clause-fault
 returns-in_err-text-clause-fault c =
     let p = err_from_is_err_and c.from_residual-in_err-text.result c.from_residual-in_err-text.ensures.1 in
-    rw p.1 (λ l told. c.in_err-text.ensures.fault _ (told.each Limit.Text))
+    rw p.1 (λ l reported. c.in_err-text.ensures.fault _ (reported.each Limit.Text))
 
 pub returns-clause-found : goal.returns-clause-found
 returns-clause-found c =

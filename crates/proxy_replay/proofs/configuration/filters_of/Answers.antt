@@ -6,8 +6,8 @@ pub returns-in_err-filter-clause-fault : goal.returns-in_err-filter-clause-fault
 returns-in_err-filter-clause-fault c =
     let p = err_from_is_err_and c.from_residual.result c.from_residual.ensures.1 in
     rw (p.1, p.2) (λ bad fs all.
-    let told = object_at c.args.items.now fs c.loop-item.item-index c.item-item.result c.loop-item-test.true all in
-    c.in_err-filter.ensures.fault bad told.0 (rw (← c.item-item.is) at told.1))
+    let reported = object_at c.args.items.now fs c.loop-item.item-index c.item-item.result c.loop-item-test.true all in
+    c.in_err-filter.ensures.fault bad reported.0 (rw (← c.item-item.is) at reported.1))
 
 pub loop-item-preserved : goal.loop-item-preserved
 loop-item-preserved c =

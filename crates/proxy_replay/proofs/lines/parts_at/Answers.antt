@@ -41,19 +41,19 @@ pub returns-in_err-hex_at-in-AdsBytes-clause-fault : goal.returns-in_err-hex_at-
 returns-in_err-hex_at-in-AdsBytes-clause-fault c =
     let p = err_from_is_err_and c.from_residual.result c.from_residual.ensures.1 in
     rw (p.1, p.2) (λ bad event same parts.
-    let told = of_stream (view c.args.value.now) event (same ∙ c.in-AdsBytes.is) parts in
-    c.in_err-hex_at-in-AdsBytes.ensures.fault bad told.0 told.1)
+    let reported = of_stream (view c.args.value.now) event (same ∙ c.in-AdsBytes.is) parts in
+    c.in_err-hex_at-in-AdsBytes.ensures.fault bad reported.0 reported.1)
 
 pub returns-in_err-conn-in-HttpOpen-clause-fault : goal.returns-in_err-conn-in-HttpOpen-clause-fault
 returns-in_err-conn-in-HttpOpen-clause-fault c =
     let p = err_from_is_err_and c.from_residual-in_err-conn-in-HttpOpen.result c.from_residual-in_err-conn-in-HttpOpen.ensures.1 in
     rw (p.1, p.2) (λ bad event same parts.
-    let told = of_opened (view c.args.value.now) event (same ∙ c.in-HttpOpen.is) parts in
-    c.in_err-conn-in-HttpOpen.ensures.fault bad told.0 told.1)
+    let reported = of_opened (view c.args.value.now) event (same ∙ c.in-HttpOpen.is) parts in
+    c.in_err-conn-in-HttpOpen.ensures.fault bad reported.0 reported.1)
 
 pub returns-in_err-bytes-in-HttpBytes-clause-fault : goal.returns-in_err-bytes-in-HttpBytes-clause-fault
 returns-in_err-bytes-in-HttpBytes-clause-fault c =
     let p = err_from_is_err_and c.from_residual-in_err-bytes-in-HttpBytes.result c.from_residual-in_err-bytes-in-HttpBytes.ensures.1 in
     rw (p.1, p.2) (λ bad event same parts.
-    let told = of_connection (view c.args.value.now) event (same ∙ c.in-HttpBytes.is) parts in
-    c.in_err-bytes-in-HttpBytes.ensures.fault bad told.0 told.1)
+    let reported = of_connection (view c.args.value.now) event (same ∙ c.in-HttpBytes.is) parts in
+    c.in_err-bytes-in-HttpBytes.ensures.fault bad reported.0 reported.1)

@@ -13,7 +13,7 @@ returns-in-Ok-clause-found c =
     let seen = sym c.seen_by.ensures ∙ ap (option_map line_view) c.in-Some.is in
     record {
       calls = call ∷ [];
-      told = seen_one c.args.core.now.only c.args.line.now (line_view c.in_ok-event.event) _ call c.in_ok-event.ensures.found
+      reported = seen_one c.args.core.now.only c.args.line.now (line_view c.in_ok-event.event) _ call c.in_ok-event.ensures.found
           seen c.event.ensures;
       does = (_, c.in-Ok.ensures.found, refl);
       same = c.in_ok-push-in-Ok.ensures.bytes
@@ -27,7 +27,7 @@ returns-clause-found c =
     let seen = sym c.seen_by.ensures ∙ ap (option_map line_view) c.in-Some.is in
     record {
       calls = call ∷ [];
-      told = seen_one c.args.core.now.only c.args.line.now (line_view c.in_ok-event.event) _ call c.in_ok-event.ensures.found
+      reported = seen_one c.args.core.now.only c.args.line.now (line_view c.in_ok-event.event) _ call c.in_ok-event.ensures.found
           seen c.event.ensures;
       does = (_, c.in-Err.ensures.fault, refl);
       same = c.in_ok-from_str-in-Err.ensures.ok ∙ sym (append-nil (answer_line call));

@@ -74,7 +74,7 @@ loop-number-preserved g c =
     let prints = rw (c.deref.ensures.value, same) at c.in_ok-answer_line-in-Some.ensures.answered in (
       lines ++ c.in-Some.line.items ∷ [],
       calls ++ prints.calls,
-      replayed_more _ _ _ _ lines calls _ _ _ _ _ _ _ prints.calls so_far reads prints.told prints.does prints.printed,
+      replayed_more _ _ _ _ lines calls _ _ _ _ _ _ _ prints.calls so_far reads prints.reported prints.does prints.printed,
       omega (arith, count, length-append lines (c.in-Some.line.items ∷ [])),
       c.in_ok-answer_line-in-Some.ensures.only ∙ same,
     )

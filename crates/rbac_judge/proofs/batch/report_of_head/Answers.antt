@@ -11,7 +11,7 @@ returns c =
     let fault = rw (c.limits.ensures, c.requires) at c.in_ok-found.ensures.fault in
     let is : IsFound largest (conn_view c.args.conn) c.args.head.now c.in_ok-found.found = record { judged = judged; fault = fault; none = c.in_ok-found.ensures.unfinished } in
     let finding = c.in_ok-finding.ensures in
-    rw (c.told.ensures, c.report.ensures) (record {
+    rw (c.with_why.ensures, c.report.ensures) (record {
       json = refl;
       under = under_found _ _ c.args.head.now c.in_ok-found.found _ _ is finding.outcome finding.explanation;
       named = finding.name;

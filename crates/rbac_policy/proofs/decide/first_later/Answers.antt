@@ -2,9 +2,9 @@ use Rattle.std.proofs.Common.{◌≡◌, false, true, inl, inr, map, subst}
 use Rattle.std.proofs.lemmas.List.{take_all}
 use Rattle.std.proofs.lemmas.Result.{err_from_is_err_and}
 use Rattle.rbac_policy.specs.Named.{policy_view}
-use Rattle.rbac_policy.specs.private.Runs.{AnyProgram, PassesBound}
+use Rattle.rbac_policy.specs.private.Runs.{AnyProgram, ExceedsBound}
 use Rattle.rbac_policy.proofs.FirstRun.{Failed, next_failed, none_first, this_first, this_asks, this_has_none}
-use Rattle.rbac_policy.proofs.IndexLemmas.{ruled_tells}
+use Rattle.rbac_policy.proofs.IndexLemmas.{ruled_out_matches}
 use Rattle.rbac_policy.proofs.decide.first_later.Goals as goal
 
 pub loop-number-init : goal.loop-number-init
@@ -26,7 +26,7 @@ returns-in_err-policy_matches-clause-fault c =
     let p = err_from_is_err_and c.from_residual.result c.from_residual.ensures.1 in
     rw (p.1, p.2) (elim c.in_err-policy_matches.ensures.fault [
       | inl memory ↦ inl memory
-      | inr (out, passes) ↦ inr (out, this_asks c.args.request.now c.args.list.now c.args.policies.now c.loop-number.number c.index-policies-number.result c.loop-number-test.true c.index-policies-number.is (PassesBound c.args.request.now) c.loop-number.invariant passes)
+      | inr (out, passes) ↦ inr (out, this_asks c.args.request.now c.args.list.now c.args.policies.now c.loop-number.number c.index-policies-number.result c.loop-number-test.true c.index-policies-number.is (ExceedsBound c.args.request.now) c.loop-number.invariant passes)
     ])
 
 pub returns-then-branch-clause-found : goal.returns-then-branch-clause-found
@@ -52,5 +52,5 @@ loop-number-preserved-then-is_ruled_out c =
     let i = c.loop-number.number in
     let item = c.index-policies-number.result in
     next_failed r list items i item c.loop-number-test.true c.index-policies-number.is c.loop-number.invariant
-    (ruled_tells r list items i item c.loop-number-test.true c.index-policies-number.is
+    (ruled_out_matches r list items i item c.loop-number-test.true c.index-policies-number.is
     (c.is_ruled_out.ensures r (map (policy_view list) items) c.requires.indexed c.if-is_ruled_out.true))

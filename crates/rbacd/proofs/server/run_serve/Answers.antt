@@ -7,13 +7,13 @@ returns-then-not-words g c =
     let (text, read) = rw c.as_str.ensures.value at c.in-Ok.ensures.found in
     EndsServe.served text read (λ is_so. (let not = c.if-not-words.true in cc)) c.served.ensures
 
-pub returns-in-Ok-setup_text : goal.returns-in-Ok-setup_text
-returns-in-Ok-setup_text g c =
+pub returns-in-Ok-server_settings_text : goal.returns-in-Ok-server_settings_text
+returns-in-Ok-server_settings_text g c =
     let (text, read) = rw c.as_str.ensures.value at c.in-Ok.ensures.found in
     EndsServe.meant text _ read (let is_so = c.if-not-words.false in cc) c.show.ensures
 
 pub returns : goal.returns
 returns g c =
-    let (told, same, left) = c.end_by.ensures in
+    let (reported, same, left) = c.end_by.ensures in
     let fault = rw c.as_str.ensures.value at c.in-Err.ensures.fault in
-    end_of_serve _ _ _ _ _ _ _ _ _ c.in-Err.fault told fault same left
+    end_of_serve _ _ _ _ _ _ _ _ _ c.in-Err.fault reported fault same left

@@ -13,7 +13,7 @@ returns-in-Ok-write_whole g c =
       given = refl;
       does = c.in-Ok.ensures.found;
       written = inl appends;
-      whole = λ goes. (stays_open _ _ _ c.turn_of.ensures goes, appends);
+      whole = λ goes. (stays_open _ _ _ c.result_of.ensures goes, appends);
     }
 
 pub returns-in-Ok : goal.returns-in-Ok

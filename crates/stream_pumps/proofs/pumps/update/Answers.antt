@@ -8,7 +8,7 @@ use Rattle.stream_pumps.proofs.pumps.update.Goals as goal
 pub returns-in-Ok-write_whole : goal.returns-in-Ok-write_whole
 returns-in-Ok-write_whole g c =
     let appends = rw c.deref.ensures.value at c.in-Ok-write_whole.ensures.whole in
-    let turn = rw c.deref-in-Ok-write_whole.ensures.value at c.turn_of.ensures in
+    let turn = rw c.deref-in-Ok-write_whole.ensures.value at c.result_of.ensures in
     record {
       call = answered (ads_bytes c.args.bytes.now) (output_view c.in-Ok.output);
       given = refl;

@@ -8,7 +8,7 @@ loop-init g c = (refl, refl)
 pub loop-preserved : goal.loop-preserved
 loop-preserved g c = rounds_next _ _ _ c.loop.counter _ _ _ _ _ _ c.loop.invariant (record {
   between = _;
-  hears = c.hear_updates-link.ensures;
+  receives = c.receive_updates-link.ensures;
   serves = serves_of (g.S.Reader.Read.remaining) (g.S.Writer.Write.contents) c.accept.result
       (g.S.Streams.accepts c.args.streams.now) _ _ _ c.accept.ensures c.serve_one.ensures.served c.serve_one.ensures.none;
 })

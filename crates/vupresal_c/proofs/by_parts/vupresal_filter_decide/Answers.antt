@@ -4,7 +4,7 @@ use Rattle.c_inputs.specs.Facts.{facts_given}
 use Rattle.c_inputs.specs.Requests.{parts_given}
 use Rattle.vupresal_c.specs.Decisions.{AsksByParts, too_long}
 use Rattle.vupresal_c.specs.declared.fault.Fault.TheVariants.{Empty}
-use Rattle.vupresal_c.proofs.Deciding.{decided, told}
+use Rattle.vupresal_c.proofs.Deciding.{decided, reported}
 use Rattle.vupresal_c.proofs.by_parts.vupresal_filter_decide.Goals as goal
 
 pub returns-in-None-clause-fault : goal.returns-in-None-clause-fault
@@ -23,5 +23,5 @@ returns-in-Some-clause-found c =
 pub returns-in-Some-clause-long : goal.returns-in-Some-clause-long
 returns-in-Some-clause-long c =
     let same : to_z w32 (of_z w32 c.answered.result) ≡ c.answered.result = search rules in
-    λ long. same ∙ told c.decide_parts-answer.result too_long _ _ c.answered.ensures.fault
+    λ long. same ∙ reported c.decide_parts-answer.result too_long _ _ c.answered.ensures.fault
     (c.decide_parts-answer.ensures.long (rw (c.in-Some.ensures.taken, ← c.deref.ensures, ← c.deref-in-Some.ensures) at long))

@@ -3,7 +3,7 @@ use Rattle.std.specs.Prelude.{is_none}
 use Rattle.proxy_core.specs.Events.{http_output, output_view}
 use Rattle.proxy_core.specs.Step.{front_at}
 use Rattle.proxy_core.specs.Proxies.{proxy_view}
-use Rattle.proxy_core.proofs.Parts.{heard_http, keeps_heard, not_none}
+use Rattle.proxy_core.proofs.Parts.{answered_http, keeps_answered, not_none}
 use Rattle.proxy_core.proofs.proxy.Proxy.http_bytes.Goals as goal
 
 pub returns-in_err-keeps-clause-sure : goal.returns-in_err-keeps-clause-sure
@@ -23,15 +23,15 @@ returns-in_err-http-clause-sure c = λ none.
 
 pub returns-then-branch-clause-found : goal.returns-then-branch-clause-found
 returns-then-branch-clause-found c =
-    keeps_heard (proxy_view c.args.self.now) (proxy_view c.keeps.new.self) c.args.k c.args.bytes.now
+    keeps_answered (proxy_view c.args.self.now) (proxy_view c.keeps.new.self) c.args.k c.args.bytes.now
     (output_view c.none.result) (rw c.if-branch.true at c.in_ok-keeps.ensures.kept) c.none.ensures
 
 pub returns-clause-found : goal.returns-clause-found
 returns-clause-found c =
     let there : front_at (proxy_view c.keeps.new.self) c.args.k ≡ Some c.in_ok-front.front = search rules in
-    let told : output_view c.on_http.result ≡ http_output c.in_ok-http.http.items (is_none c.in_ok-http.front) =
+    let reported : output_view c.on_http.result ≡ http_output c.in_ok-http.http.items (is_none c.in_ok-http.front) =
     search rules in
-    heard_http (proxy_view c.args.self.now) (proxy_view c.keeps.new.self) (proxy_view c.put.new.self) c.args.k
+    answered_http (proxy_view c.args.self.now) (proxy_view c.keeps.new.self) (proxy_view c.put.new.self) c.args.k
     c.args.bytes.now c.in_ok-http.http.items c.in_ok-front.front c.in_ok-http.front c.in_ok-http.field-0-2.items
     (output_view c.on_http.result) (rw c.if-branch.false at c.in_ok-keeps.ensures.kept) there
-    c.in_ok-http.ensures.found told c.put.ensures.put
+    c.in_ok-http.ensures.found reported c.put.ensures.put

@@ -14,6 +14,6 @@ returns-in_err-front-clause-sure c =
 pub returns-clause-found : goal.returns-clause-found
 returns-clause-found c =
     let n : length c.args.self.now.conns ≡ 8 = search rules in
-    let told : output_view c.on_http.result ≡ http_output [] (is_none c.in_ok-front.front) = search rules in
+    let reported : output_view c.on_http.result ≡ http_output [] (is_none c.in_ok-front.front) = search rules in
     in_place c.in_ok-front.front (omega (arith, n, c.if-k-ge-PLACES.false)) c.in_ok-front.ensures.found
-    told c.put.ensures.put
+    reported c.put.ensures.put

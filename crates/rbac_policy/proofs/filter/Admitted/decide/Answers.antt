@@ -3,8 +3,8 @@ use Rattle.std.proofs.lemmas.Result.{err_from_is_err_and}
 use Rattle.rbac_policy.specs.Admitted.{filter_view, limits_view}
 use Rattle.rbac_policy.specs.Named.{policy_view}
 use Rattle.rbac_policy.specs.private.Action.{allows}
-use Rattle.rbac_policy.specs.private.Runs.{AnyProgram, IsFirst, PassesBound}
-use Rattle.rbac_policy.proofs.Deciding.{asked_is_told, asking, found_verdict, have_none, none_passes}
+use Rattle.rbac_policy.specs.private.Runs.{AnyProgram, IsFirst, ExceedsBound}
+use Rattle.rbac_policy.proofs.Deciding.{asked_is_reported, asking, found_verdict, have_none, none_passes}
 use Rattle.rbac_policy.proofs.FirstRun.{memory_is_other}
 use Rattle.rbac_policy.proofs.filter.Admitted.decide.Goals as goal
 
@@ -50,7 +50,7 @@ returns-in_err-matched-clause-fault c =
       | inr (out, passes) ↦ inr (
         out,
         λ filter admitted. asking (filter_view c.args.self.now) rules.list rules.policies.items rules.ordered refl
-            (limits_view c.args.self.now) c.args.request.now c.request_is_sound.ensures filter admitted (PassesBound c.args.request.now) passes,
+            (limits_view c.args.self.now) c.args.request.now c.request_is_sound.ensures filter admitted (ExceedsBound c.args.request.now) passes,
       )
     ])
 
@@ -66,11 +66,11 @@ returns-in_err-matched-clause-within c =
           (limits_view c.args.self.now) c.args.request.now c.request_is_sound.ensures filter admitted inside passes
     ]
 
-pub returns-clause-told : goal.returns-clause-told
-returns-clause-told c =
+pub returns-clause-reported : goal.returns-clause-reported
+returns-clause-reported c =
     let rules = c.args.self.now.rules in
     let given : c.named_policies.result.now ≡ rules.policies.items = c.named_policies.ensures in
     let listed : c.list.result.now ≡ rules.list = c.list.ensures in
-    λ filter admitted asked. absurd (asked_is_told (filter_view c.args.self.now) rules.list rules.policies.items rules.ordered refl
+    λ filter admitted asked. absurd (asked_is_reported (filter_view c.args.self.now) rules.list rules.policies.items rules.ordered refl
     (limits_view c.args.self.now) c.args.request.now c.request_is_sound.ensures filter admitted asked c.in_ok-matched.matched
     (rw (given, listed) at c.in_ok-matched.ensures.found))

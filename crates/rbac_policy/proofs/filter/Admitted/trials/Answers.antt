@@ -1,8 +1,8 @@
 use Rattle.std.proofs.Common.{◌≡◌, inl, inr, refl}
 use Rattle.std.proofs.lemmas.Result.{MatchResult-weaker}
 use Rattle.rbac_policy.specs.Admitted.{filter_view, limits_view}
-use Rattle.rbac_policy.specs.private.Runs.{PassesBound}
-use Rattle.rbac_policy.proofs.Deciding.{asked_is_told, asking, none_passes}
+use Rattle.rbac_policy.specs.private.Runs.{ExceedsBound}
+use Rattle.rbac_policy.proofs.Deciding.{asked_is_reported, asking, none_passes}
 use Rattle.rbac_policy.proofs.Trying.{filter_tried, never_out, only_errors, trials_first}
 use Rattle.rbac_policy.proofs.filter.Admitted.trials.Goals as goal
 
@@ -28,12 +28,12 @@ returns-clause-fault c =
       | inr (out, passes) ↦ inr (
         out,
         λ filter admitted. asking (filter_view c.args.self.now) rules.list rules.policies.items rules.ordered refl
-            (limits_view c.args.self.now) c.args.request.now c.request_is_sound.ensures filter admitted (PassesBound c.args.request.now) passes,
+            (limits_view c.args.self.now) c.args.request.now c.request_is_sound.ensures filter admitted (ExceedsBound c.args.request.now) passes,
       )
     ])
 
-pub returns-clause-told : goal.returns-clause-told
-returns-clause-told c =
+pub returns-clause-reported : goal.returns-clause-reported
+returns-clause-reported c =
     let rules = c.args.self.now.rules in
     let given : c.named_policies.result.now ≡ rules.policies.items = c.named_policies.ensures in
     let listed : c.list.result.now ≡ rules.list = c.list.ensures in
@@ -41,7 +41,7 @@ returns-clause-told c =
     (MatchResult-weaker c.try_policies.result (rw (given, listed) at c.try_policies.ensures.tried)
     (λ trials are.
     let found = trials_first c.args.request.now rules.list rules.policies.items trials.items are in
-    asked_is_told (filter_view c.args.self.now) rules.list rules.policies.items rules.ordered refl
+    asked_is_reported (filter_view c.args.self.now) rules.list rules.policies.items rules.ordered refl
     (limits_view c.args.self.now) c.args.request.now c.request_is_sound.ensures filter admitted asked found.0 found.1)
     (λ e h. h))
     (MatchResult-weaker c.try_policies.result c.try_policies.ensures.fault (λ trials h. h)

@@ -14,8 +14,8 @@ pub invariant_of-self : goal.invariant_of-self
 invariant_of-self c =
     let old = c.args.self.now in
     record {
-      fits = same_fits old.client c.feed.new.self old.guests.items c.in_err-fed.ensures.fault old.fits;
-      reached = same_reached old.client c.feed.new.self old.guests.items old.requests c.in_err-fed.ensures.fault old.reached;
+      fits = same_fits old.client c.feed.new.self old.connections.items c.in_err-fed.ensures.fault old.fits;
+      reached = same_reached old.client c.feed.new.self old.connections.items old.requests c.in_err-fed.ensures.fault old.reached;
     }
 
 pub invariant_of-self-2 : goal.invariant_of-self-2
@@ -26,7 +26,7 @@ invariant_of-self-2 c =
     let up : is_some (client_view old.client).stream ≡ true = search rules in
     let (versions, fed) = c.in_ok-fed.ensures.found in
     record {
-      fits = fits_same (client_view old.client) client (sessions_of old.guests.items) c.in_ok-fed.ensures.config old.fits;
+      fits = fits_same (client_view old.client) client (sessions_of old.connections.items) c.in_ok-fed.ensures.config old.fits;
       reached = works_more (ads_bytes (take c.min-count.result c.args.bytes.now)) (ads_output c.in_ok-fed.fed.replies.items (is_some c.in_ok-fed.fed.ended))
           (worker_view old) (with_stream (worker_view old) client c.of.result)
           (feed_works (worker_view old) (take c.min-count.result c.args.bytes.now) none c.in_ok-fed.fed.replies.items c.of.result

@@ -13,11 +13,11 @@ fresh_here o f is fresh = rw is at fresh
 
 pub returns-in-Some-session : goal.returns-in-Some-session
 returns-in-Some-session c =
-    let gs = c.args.self.now.guests.items in
-    let guest = c.in-Some.guest.now in
+    let gs = c.args.self.now.connections.items in
+    let connection = c.in-Some.connection.now in
     let found = rw c.deref.ensures.value at c.in-Some.ensures.lookup in
-    let there = some_there gs c.args.k guest guest found.3.0 (found.3.1 guest) in
-    let is = session_at gs c.args.k guest there ∙ c.in-Some-session.is in (
+    let there = some_there gs c.args.k connection connection found.3.0 (found.3.1 connection) in
+    let is = session_at gs c.args.k connection there ∙ c.in-Some-session.is in (
       λ so. fresh_there _ c.in-Some-session.session is (c.is_fresh.ensures.0 so),
       λ fresh. c.is_fresh.ensures.1 (fresh_here _ c.in-Some-session.session is fresh),
     )

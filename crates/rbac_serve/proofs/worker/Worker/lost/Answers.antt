@@ -15,7 +15,7 @@ invariant_of-self c =
     let same : client.config ≡ (client_view old.client).config =
     ap (λ (v : ClientValue). v.config) c.lost.ensures in
     record {
-      fits = fits_same (client_view old.client) client (sessions_of old.guests.items) same old.fits;
+      fits = fits_same (client_view old.client) client (sessions_of old.connections.items) same old.fits;
       reached = works_more ads_lost no_output (worker_view old) (with_stream (worker_view old) client c.new.result)
           (lost_works (worker_view old) client c.new.result c.lost.ensures c.new.ensures) old.reached;
     }

@@ -13,8 +13,8 @@ pub invariant_of-self : goal.invariant_of-self
 invariant_of-self c =
     let old = c.args.self.now in
     record {
-      fits = same_fits old.client c.connected.new.self old.guests.items c.in_err-bytes.ensures.fault old.fits;
-      reached = same_reached old.client c.connected.new.self old.guests.items old.requests c.in_err-bytes.ensures.fault old.reached;
+      fits = same_fits old.client c.connected.new.self old.connections.items c.in_err-bytes.ensures.fault old.fits;
+      reached = same_reached old.client c.connected.new.self old.connections.items old.requests c.in_err-bytes.ensures.fault old.reached;
     }
 
 pub invariant_of-self-2 : goal.invariant_of-self-2
@@ -24,7 +24,7 @@ invariant_of-self-2 c =
     let same : client.config ≡ (client_view old.client).config =
     ap (λ (v : ClientValue). v.config) c.in_ok-bytes.ensures.up in
     record {
-      fits = fits_same (client_view old.client) client (sessions_of old.guests.items) same old.fits;
+      fits = fits_same (client_view old.client) client (sessions_of old.connections.items) same old.fits;
       reached = works_more ads_up (ads_output c.in_ok-bytes.bytes.items false) (worker_view old)
           (with_stream (worker_view old) client c.of.result)
           (up_works (worker_view old) client c.in_ok-bytes.bytes.items c.of.result c.in_ok-bytes.ensures.found

@@ -1,0 +1,142 @@
+//! The settings of a server, and their texts. No contract describes the texts.
+
+use crate::paths::clash_of;
+use ads::Config;
+use attributes::{Conn, Limit};
+use program_texts::{FactsFault, cause_of_bad_value, conn_of};
+use proxy_replay::{ConfigTextFault, cause_of_bad_settings, config_at, config_text};
+use serde_json::Value;
+use serve_config::{Address, ServeConfig, ServeConfigFault, meaning, read_serve_config};
+use serve_log::facts_value;
+use std::alloc::{AllocError, Global};
+use std::sync::ArcStr;
+
+/// The length of the longest text of a peer's address with its port: one of IPv6 in brackets.
+const LONGEST_PEER: usize = 47;
+
+/// What a server is set to.
+#[derive(Drop)]
+pub struct ServerSettings {
+    /// The node, the filters and the limits.
+    pub config: Config,
+    /// What is known of every connection.
+    pub conn: Conn,
+    /// Where it listens, and all else.
+    pub settings: ServeConfig,
+}
+
+/// Why a text has no settings of a server.
+#[derive(Drop)]
+pub enum ServerSettingsFault {
+    /// A member is wrong, for this cause.
+    Bad(String),
+    /// Memory ran out.
+    Memory,
+}
+
+impl From<AllocError> for ServerSettingsFault {
+    fn from(_refused: AllocError) -> ServerSettingsFault {
+        ServerSettingsFault::Memory
+    }
+}
+
+/// The settings of a JSON text (RFC 8259): an object with `proxy`, a configuration as in `read_config`, `facts`, as in
+/// `read_facts`, which may be absent, and the members of `read_serve_config`. `path` is that of their file.
+pub fn read_server_settings(
+    alloc: Global,
+    path: &str,
+    text: &[u8],
+) -> Result<ServerSettings, ServerSettingsFault> {
+    let value = match Value::from_slice(alloc, text) {
+        Ok(value) => value,
+        Err(error) if error.is_memory() => return Err(ServerSettingsFault::Memory),
+        Err(error) => {
+            return Err(ServerSettingsFault::Bad(format!(in alloc;
+                "it is not a JSON text: {error}"
+            )?));
+        }
+    };
+    let settings = match read_serve_config(alloc, &value) {
+        Ok(settings) => settings,
+        Err(fault) => return Err(bad_member(alloc, fault)?),
+    };
+    let config = proxy_in(alloc, &value)?;
+    let conn = facts_in(alloc, &value)?;
+    let server_settings = ServerSettings {
+        config,
+        conn,
+        settings,
+    };
+    match misfit_of(&server_settings).or(clash_of(&server_settings.settings, path)) {
+        Some(cause) => Err(ServerSettingsFault::Bad(String::from_str(alloc, cause)?)),
+        None => Ok(server_settings),
+    }
+}
+
+// Why settings that are allowed by themselves do not go together, if they do not.
+fn misfit_of(server_settings: &ServerSettings) -> Option<&'static str> {
+    let limits = server_settings.config.limits();
+    if !limits.fits_conn(&server_settings.conn) {
+        return Some("facts: a text is longer than the limit text of proxy");
+    }
+    for address in &server_settings.settings.listen {
+        if !matches!(address, Address::Unix(_)) && limits.get(Limit::Text) < LONGEST_PEER {
+            return Some("proxy: the limit text is below 47, the length of a peer's address");
+        }
+    }
+    None
+}
+
+// The configuration of the proxy.
+fn proxy_in(alloc: Global, value: &Value) -> Result<Config, ServerSettingsFault> {
+    let proxy = value.get("proxy").unwrap_or(&Value::Null);
+    match config_at(alloc, proxy) {
+        Ok(config) => Ok(config),
+        Err(ConfigTextFault::Memory) => Err(ServerSettingsFault::Memory),
+        Err(ConfigTextFault::Bad) => {
+            let cause = cause_of_bad_settings(alloc, proxy)?;
+            Err(ServerSettingsFault::Bad(format!(in alloc; "proxy: {cause}")?))
+        }
+    }
+}
+
+// The facts of all connections.
+fn facts_in(alloc: Global, value: &Value) -> Result<Conn, ServerSettingsFault> {
+    let Some(facts) = value.get("facts") else {
+        return Ok(Conn::of_scheme(ArcStr::from_str(alloc, "http")?));
+    };
+    match conn_of(alloc, facts) {
+        Ok(conn) => Ok(conn),
+        Err(FactsFault::Memory) => Err(ServerSettingsFault::Memory),
+        Err(FactsFault::Bad) => Err(ServerSettingsFault::Bad(
+            match cause_of_bad_value(alloc, facts)? {
+                Some(cause) => format!(in alloc; "facts: {cause}")?,
+                None => String::from_str(alloc, "facts: a text is longer than the limit")?,
+            },
+        )),
+    }
+}
+
+// The fault of a member.
+fn bad_member(alloc: Global, fault: ServeConfigFault) -> Result<ServerSettingsFault, AllocError> {
+    match fault {
+        ServeConfigFault::Memory => Ok(ServerSettingsFault::Memory),
+        fault => Ok(ServerSettingsFault::Bad(format!(in alloc; "{fault}")?)),
+    }
+}
+
+/// The meaning of the settings, in lines for their author.
+pub fn server_settings_text(
+    alloc: Global,
+    server_settings: &ServerSettings,
+) -> Result<String, AllocError> {
+    let config = config_text(alloc, &server_settings.config)?;
+    let facts = facts_text(alloc, &server_settings.conn)?;
+    let settings = meaning(alloc, &server_settings.settings)?;
+    format!(in alloc; "{config}facts {facts}\n{settings}")
+}
+
+// What is known of a connection, as the JSON object that a facts file has.
+fn facts_text(alloc: Global, conn: &Conn) -> Result<String, AllocError> {
+    facts_value(alloc, conn)?.to_string(alloc)
+}
