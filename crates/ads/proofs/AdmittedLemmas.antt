@@ -60,7 +60,7 @@ module _ (limits : LimitsValue) where
   its_limits name (f ∷ fs) a (inl (same, is)) = is.0
   its_limits name (f ∷ fs) a (inr some) = its_limits name fs a some
 
--- the filters were admitted, told of a client's ghost field
+-- the filters were admitted, reported of a client's ghost field
 pub merely_found : (c : ConfigValue) (name : List ℕ) (ps : List (Option AdmittedValue)) (a : AdmittedValue)
     → policies_at name c.filters ps ≡ Some a → ∥ AllZip (WasAdmitted c.limits) c.filters ps ∥₁
     → ∥ WasAdmittedAs c name a ∥₁
@@ -94,7 +94,7 @@ all_admitted c old (m ∷ messages) replies versions new ends
     (inr (response, reply, next, more, later, reads, answers, frame, reported, others)) all =
     all_admitted c next messages more later new ends others (answer_admitted c response old next reply answers all)
 
--- told of a client's ghost field
+-- reported of a client's ghost field
 pub merely_all : (c : ConfigValue) (old new : Accepted) (messages : List (List ℕ)) (replies : List ℕ)
     (versions : List (List ℕ)) (ends : Bool)
     → AreAnswered c old messages replies versions new ends

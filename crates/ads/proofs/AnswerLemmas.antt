@@ -158,7 +158,7 @@ pub same_draft : (old : List (Option AdmittedValue)) (reported version : List �
     (record { version = version; policies = old; generation = n })
 same_draft old reported version given n same none = rw (same, none, replaced_nothing old) refl
 
--- what a test told
+-- what a test reported
 pub reported_no : (b : Bool) (P Q : Type 0) → b ≡ false → MatchBool b P Q → Q
 reported_no true P Q is p = absurd (true≢false is)
 reported_no false P Q is q = q
@@ -177,7 +177,7 @@ from_judged c a b d ms before reported draft reason same none empty (judgements,
     let each : draft.judgements.items ≡ judgements = judged_so ∙ ap (λ xs. xs ++ judgements) empty in
     rw (all, each, ← same) judged
 
--- what was told of a fault, if there is one
+-- what was reported of a fault, if there is one
 pub reported_none : {A : Type 0} (found : Option A) (P : Type 0) (Q : A → Type 0) → found ≡ None → MatchOption found P Q → P
 reported_none None P Q is p = p
 reported_none (Some x) P Q is q = absurd cc

@@ -85,7 +85,7 @@ not_accepted_weaker P Q M N weaker less not_accepted.NoMemory m = less m
 
 module _ (c : ConfigValue) (response : ResponseMessage) (xs : List ExtensionMessage)
     (reads : AllZip IsResource response.resources xs) where
-  -- why one filter takes nothing, told of the resources
+  -- why one filter takes nothing, reported of the resources
   abbrev OneFault : Refusal → FilterValue → Type 0
   OneFault e f = (TwoOf (IsNamed f.name) response.resources × (e ≡ Refusal.DuplicateResource))
       ⊎ (SomeOf (IsRefusedFor c.limits f e) response.resources

@@ -1,4 +1,4 @@
--- What is told of a response is how it is answered.
+-- What is reported of a response is how it is answered.
 use Rattle.std.proofs.Common.{◌≡◌, ◌⊎◌, inl, inr, refl, sym, ap, ◌∙◌, ℕ, ◌+◌, ◌-◌, ◌^◌, Bool, true, false, Option, Some, None, List, [], ◌∷◌, ◌++◌, map}
 use Rattle.std.specs.Prelude.{is_some, min}
 use Rattle.std.specs.String.{string_bytes}

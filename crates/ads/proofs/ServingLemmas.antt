@@ -241,7 +241,7 @@ module _ (snapshots : List (List ResourceValue)) (start : ServedValue) (all : Li
         ap (λ (s : Serving). s.replies.items) same ∙ so_far,
       )
 
--- what is told of the messages behind nothing
+-- what is reported of the messages behind nothing
 pub from_exchanged : (snapshots : List (List ResourceValue)) (start : ServedValue) (ms : List (List ℕ))
     (before : List ℕ) (reported : List Exchange) (now : Serving) (reason : Option Ended) → before ≡ [] → reported ≡ []
     → AllExchanged snapshots start ms before reported now reason
@@ -330,7 +330,7 @@ taken_so snapshots request old now before after xs ys x ends reported is (number
       pushed,
     )
 
--- the messages are served as they are told
+-- the messages are served as they are reported
 pub exchanged_served : (snapshots : List (List ResourceValue)) (old : ServedValue) (ms : List (List ℕ))
     (xs : List Exchange) (replies numbers : List ℕ) (new : ServedValue) (reason : Option Ended)
     → AreExchanged snapshots old ms xs replies numbers new reason

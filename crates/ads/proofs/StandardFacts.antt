@@ -216,7 +216,7 @@ module _ (limits : LimitsValue) where
     generation = 1;
   }
 
-  -- the first request has no version and no nonce, and tells who asks
+  -- the first request has no version and no nonce, and says who asks
   pub first_of_all : first_request (configuration limits) new ≡ request [] (Some node) [] None
   first_of_all = refl
 
@@ -253,7 +253,7 @@ module _ (limits : LimitsValue) where
   unfolding digits
   refused_first = AnswersAs.nack Refusal.WrongType refuses_y refl refl
 
-  -- whatever the error tells, each answer to it has that version, that nonce and an error, and accepts nothing
+  -- whatever the error says, each answer to it has that version, that nonce and an error, and accepts nothing
   pub never_acknowledged : (reply : RequestMessage) (after : Accepted)
       → Answers (configuration limits) update_y after_x reply after
       → (reply.version_info ≡ codes "X") × (reply.response_nonce ≡ codes "B") × (reply.error_detail ≢ None)

@@ -96,7 +96,7 @@ part_served old new rest bytes replies up begins none snapshots stream same = rw
   ap is_none (sym stream),
 )
 
--- and nothing is told of them
+-- and nothing is reported of them
 pub part_exchanged : (old new : ControlValue) (rest bytes replies : List ℕ) (xs : List Exchange)
     → old.stream ≡ Some rest → IsBeginning most_bytes (rest ++ bytes) → replies ≡ [] → xs ≡ []
     → new.served ≡ old.served → ReportsExchangesBy old.stream old bytes replies xs None new
@@ -131,7 +131,7 @@ fed_stream old new rest bytes next messages versions tail ends replies given is_
       reported,
     )
 
--- bytes that complete no message tell nothing
+-- bytes that complete no message say nothing
 pub part_reported : (old new : ClientValue) (rest bytes replies : List ℕ) (js : List Judgement) → old.stream ≡ Some rest
     → IsBeginning most_bytes (rest ++ bytes) → replies ≡ [] → js ≡ [] → new.accepted ≡ old.accepted
     → ReportsJudgementsBy old.stream old bytes replies js None new

@@ -57,7 +57,7 @@ module _ (limits : LimitsValue) (xs : List ExtensionMessage) (yielded : List (Bo
       (refuses_nothing limits xs) (entries_view (map deref_pair yielded)) (policies_view given)
       (filter_of (string_bytes name.now) budget.now) (entries_view after) so_far here)
 
-  -- the filter is the first that refuses, and is told
+  -- the filter is the first that refuses, and is reported
   pub refuses_here : (given : List (Option Admitted)) (count : ℕ) (e reported : Refusing)
       → AllZip (λ f. Gives limits f (named f.name xs)) (entries_view (map deref_pair yielded)) (policies_view given)
       → count ≡ length given → reported.fault ≡ e.fault → reported.filter ≡ Some count → reported.message ≡ e.message

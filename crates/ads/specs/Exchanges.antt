@@ -26,7 +26,7 @@ IsSentFor replies None = replies ≡ []
 IsSentFor replies (Some s) = (response : ResponseMessage) × (message : List ℕ) × ResponseWritten response message
     × (replies ≡ frame_of message) × (response.version_info ≡ decimal s.snapshot) × (response.nonce ≡ decimal s.count)
 
--- a request and the bytes that were sent for it, as they are told
+-- a request and the bytes that were sent for it, as they are reported
 pub record IsExchange (request : RequestMessage) (replies : List ℕ) (x : Exchange) : Type 0 where
   pub version : string_bytes x.version ≡ request.version_info
   pub nonce : string_bytes x.nonce ≡ request.response_nonce

@@ -1,4 +1,4 @@
--- A front's request tells one client's request at most, or has a fault.
+-- A front's request gives one client's request at most, or has a fault.
 use Rattle.std.proofs.Common.{◌≡◌, ◌∙◌, ℕ, zero, suc, ◌<◌, true, false, List, [], ◌∷◌, length, get_or, ap, refl, sym, arith, Any, Bool}
 use Rattle.std.specs.List.{AllZip, list_all}
 use Rattle.std.specs.String.{string_bytes}

@@ -1,4 +1,4 @@
--- The client's request, as that of a front proxy tells it (RFC 9110, sections 5.2, 5.3 and 7.2; RFC 7239, section 4).
+-- The client's request, as that of a front proxy gives it (RFC 9110, sections 5.2, 5.3 and 7.2; RFC 7239, section 4).
 use Rattle.std.specs.Prelude.{◌≡◌, ℕ, ◌<◌, Bool, true, false, not, Any, Option, Some, None, List, [], ◌∷◌, ◌++◌, codes, filter, length, map}
 use Rattle.std.specs.List.{AllZip, list_all, list_any}
 use Rattle.std.specs.Str.{bytes_eq}
@@ -50,7 +50,7 @@ pub record ClientValue : Type 0 where
   pub host : Option (List ℕ)
   pub facts : Facts
 
--- the client, as the parts of a request tell it
+-- the client, as the parts of a request give it
 abbrev pub client_of : PartsValue → ClientValue
 client_of p =
     record { method = p.method; target = p.target; host = None; facts = p.facts }
@@ -118,7 +118,7 @@ mapped m said old = let client = put_all said (client_of old) in record {
   facts = client.facts;
 }
 
--- `new` are the parts of the client's request, as those of the front tell it
+-- `new` are the parts of the client's request, as those of the front give it
 pub record IsMapped (m : MappingValue) (old new : PartsValue) : Type 0 where
   pub claims : List Claim
   pub say : AllZip (Says old.lines) m.named claims

@@ -3,19 +3,19 @@ ghost use Rattle.std.specs.Prelude.{◌≡◌};
 ghost use Rattle.head_map.specs.declared.fact.MapFault.{MapFault};
 ghost use Rattle.head_map.specs.Mapped.{HasMapFault, IsMapped, MappingValue, PartsValue, no_mapping};
 
-/// The request of a front tells at most one request of its client.
+/// The request of a front gives at most one request of its client.
 pub fn mapped_unique()
     ensures { (m : MappingValue) (old new other : PartsValue) → IsMapped m old new
         → IsMapped m old other → new ≡ other }
 {}
 
-/// A request that tells one of the client has no fault.
+/// A request that gives one of the client has no fault.
 pub fn mapped_has_no_fault()
     ensures { (m : MappingValue) (old new : PartsValue) (fault : MapFault) → IsMapped m old new
         → ¬ (HasMapFault m old.lines fault) }
 {}
 
-/// No request of a front lacks both: it tells one of its client, or has a fault.
+/// No request of a front lacks both: it gives one of its client, or has a fault.
 pub fn mapped_or_fault()
     ensures { (m : MappingValue) (old : PartsValue) → ((new : PartsValue) → ¬ (IsMapped m old new))
         → ¬ ((fault : MapFault) → ¬ (HasMapFault m old.lines fault)) }

@@ -1,4 +1,4 @@
-//! The client's request, as the request of a front proxy tells it.
+//! The client's request, as the request of a front proxy gives it.
 ghost use Rattle.std.specs.Prelude.{◌≡◌, IfOk, MatchResult};
 ghost use Rattle.attributes.specs.Headers.{lines_view};
 ghost use Rattle.head_map.specs.Mapped.{HasMapFault, IsMapped, mapping_view, parts_view};

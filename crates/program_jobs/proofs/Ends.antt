@@ -27,7 +27,7 @@ use Rattle.command_line.specs.declared.words.ProxyWords.{ProxyWords}
 nothing_given : {A : Type 0} → ⊥ ↔ (A × ⊥)
 nothing_given = (λ g. absurd g, λ p. p.1)
 
--- where less is told, as much is given
+-- where less is reported, as much is given
 less_given : (explanation : Explanation) → IsGiven (without_trials explanation) ↔ IsGiven explanation
 less_given explanations.Absent = (λ g. g, λ g. g)
 less_given (explanations.Trials trials) = (λ g. g, λ g. g)
@@ -146,7 +146,7 @@ module _ (holds : List ℕ → List ℕ → Type 0) (lacks : (List ℕ × IoErro
         found comes ends
 
 module _ (out out_new errors errors_new : Option (List ℕ)) (status : ℕ) (fault : JobFault) where
-  -- a fault is told in words, or out of memory
+  -- a fault is reported in words, or out of memory
   pub of_reported : (reported : JobFault) → (reported ≡ fault) ⊎ (reported ≡ faults.Memory)
       → LeavesFault out out_new errors errors_new status reported
       → EndsResult out out_new errors errors_new status false (Err fault)
@@ -162,7 +162,7 @@ module _ (out out_new errors errors_new : Option (List ℕ)) (status : ℕ) (fau
 
 module _ (holds : List ℕ → List ℕ → Type 0) (lacks : (List ℕ × IoError) → Type 0)
     (out out_new errors errors_new : Option (List ℕ)) (status : ℕ) where
-  -- where there is no configuration, that is told, or out of memory
+  -- where there is no configuration, that is reported, or out of memory
   pub end_of_config : (path : List ℕ) (fault reported : JobFault) → MemoryOrStop (LacksConfig holds lacks path) fault
       → (reported ≡ fault) ⊎ (reported ≡ faults.Memory) → LeavesFault out out_new errors errors_new status reported
       → EndsConfig holds lacks out out_new errors errors_new status path
@@ -182,7 +182,7 @@ module _ (holds : List ℕ → List ℕ → Type 0) (lacks : (List ℕ × IoErro
 
 module _ (holds : List ℕ → List ℕ → Type 0) (lacks : (List ℕ × IoError) → Type 0)
     (connects accepts : List ℕ → Option Link → Type 0) (out out_new errors errors_new : Option (List ℕ)) (status : ℕ) where
-  -- where a control plane does not serve, that is told, or out of memory
+  -- where a control plane does not serve, that is reported, or out of memory
   pub end_of_control : (words : ControlWords) (fault reported : JobFault)
       → MemoryOrStop (StopsControl holds lacks words) fault
       → (reported ≡ fault) ⊎ (reported ≡ faults.Memory) → LeavesFault out out_new errors errors_new status reported

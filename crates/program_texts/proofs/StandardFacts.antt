@@ -16,7 +16,7 @@ members =
     (member (codes "direct_remote_ip") (string (codes "13.1.68.3"))
     (member (codes "source.address") (string (codes "13.1.68.3:80")) no_members)))
 
--- what it tells: of what it does not name nothing is known, and the scheme is `http`
+-- what it gives: of what it does not name nothing is known, and the scheme is `http`
 abbrev pub facts : Facts
 facts = record {
   source_address = Some (codes "13.1.68.3:80");
@@ -54,7 +54,7 @@ reported Fact.RemoteIp = tt
 reported Fact.DestinationIp = tt
 reported Fact.RequestScheme = (None, tt, refl)
 
--- the object tells these facts
+-- the object gives these facts
 pub are_facts : AreFacts (object members) facts
 are_facts = record {
   names = (

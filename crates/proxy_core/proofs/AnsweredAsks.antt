@@ -13,7 +13,7 @@ use Rattle.proxy_core.specs.Step.{AreEnforced, AnswersAsks, AsksAsWritten, Decid
 use Rattle.proxy_core.specs.declared.answered_ask.AnsweredAsk.{AnsweredAsk}
 use Rattle.proxy_core.specs.private.Deciding.{AskInLimits}
 
--- what was told is what is enforced
+-- what was reported is what is enforced
 pub answered_enforced : (a : Accepted) (answered_asks : List AnsweredAsk) (bytes : List ℕ) → AnswersAsks a answered_asks bytes
     → AreEnforced a (map (λ t. t.ask) answered_asks) bytes
 answered_enforced a [] bytes none = none
@@ -42,7 +42,7 @@ asks_more : (answered_asks : List AnsweredAsk) (t : AnsweredAsk) (more : List As
 asks_more [] t more = refl
 asks_more (x ∷ answered_asks) t more = ap (λ (asks : List Ask). x.ask ∷ asks) (asks_more answered_asks t more)
 
--- what was heard so far: a front behind bytes, and the asks that were taken, with their answers
+-- what was read so far: a front behind bytes, and the asks that were taken, with their answers
 pub record AnsweredSoFar (start : FrontValue) (bytes : List ℕ) (a : Accepted) (now : FrontValue) (out : List ℕ)
     (answered_asks : List AnsweredAsk) : Type 0 where
   pub same : now ≡ keeping start now.kept

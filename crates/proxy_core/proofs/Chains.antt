@@ -88,7 +88,7 @@ module _ (r : RequestValue) where
   tried_all all matches so_far =
       let it = so_far.chain [] true (refl, refl) in (it.0, it.1, sym (append-nil matches) ∙ it.2)
 
--- what is told of a request
+-- what is reported of a request
 pub reported_verdict : (r : RequestValue) (filters : List (Option AdmittedValue)) (is_allowed : Bool)
     (matches : List (Option ℕ)) → (IsUnready DecidesAsWritten AsksAsWritten filters → ⊥)
     → (verdicts : List VerdictValue) × Chain DecidesAsWritten AsksAsWritten r filters verdicts is_allowed

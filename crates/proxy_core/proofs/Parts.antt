@@ -123,7 +123,7 @@ module _ (old mid new : ProxyValue) (k : ℕ) (left : mid ≡ with_conn old k No
     kept_not (Ok b) answered_asks = tt
     kept_not (Err e) same = kept_back f is (made ∙ ap (λ (x : FrontValue). with_conn mid k (Some x)) same)
 
--- bytes that complete no ask are heard
+-- bytes that complete no ask are read
 pub kept_reported : (a : Accepted) (front : FrontValue) (bytes : List ℕ) → is_closed front.kept ≡ false
     → HasNoAsk (fed_front front bytes) → AnswersBytes a front bytes [] [] (Some (fed_front front bytes))
 kept_reported a front bytes open' none = (
@@ -151,7 +151,7 @@ pub not_none : (old mid : ProxyValue) (k : ℕ) (f : FrontValue) → mid ≡ old
 not_none old mid k f same is none =
     let both : Some f ≡ None = sym is ∙ ap (λ (p : ProxyValue). front_at p k) same ∙ none in absurd cc
 
--- bytes that were heard from a copy
+-- bytes that were read from a copy
 pub answered_http : (old mid new : ProxyValue) (k : ℕ) (bytes http : List ℕ) (front : FrontValue)
     (after : Option FrontValue) (answered_asks : List AnsweredAsk) (out : OutputValue) → mid ≡ old → front_at mid k ≡ Some front
     → AnswersBytes mid.client.accepted front bytes answered_asks http after → out ≡ http_output http (is_none after)

@@ -110,7 +110,7 @@ abbrev pub AnswersBytes : Accepted → FrontValue → List ℕ → List Answered
 AnswersBytes accepted front bytes answered_asks http after = (last : FrontValue) × CompletesAsks front bytes (map (λ t. t.ask) answered_asks) last
     × AnswersAsks accepted answered_asks http × (after ≡ (if is_closed last.kept then None else Some last))
 
--- the same, whatever was told
+-- the same, whatever was reported
 abbrev pub TakesBytes : Accepted → FrontValue → List ℕ → List ℕ → Option FrontValue → Type 0
 TakesBytes accepted front bytes http after =
     (asks : List Ask) × (last : FrontValue) × CompletesAsks front bytes asks last

@@ -42,7 +42,7 @@ at_fault c e fault sound = elim fault [
   | IsAtFault.bad_cluster long same ↦ let short = sound.cluster in omega (arith, long, short)
 ]
 
--- a member tells one number
+-- a member gives one number
 both_unique : (d : Option Data) (m n : Option ℕ) → BothOrNone IsNumber d m → BothOrNone IsNumber d n → m ≡ n
 both_unique None None None a b = refl
 both_unique None None (Some n) a b = absurd b

@@ -16,7 +16,7 @@ use std::rt::Clock;
 #[derive(Drop)]
 pub(crate) struct MappedWorker<'m, 'r, R: Clock, F: LogFiles + Drop> {
     pub(crate) observed: ObservedWorker<'r, R, F>,
-    // how requests tell those of clients; without a rule each one is judged as it was sent
+    // how requests give those of clients; without a rule each one is judged as it was sent
     rule: Option<MappingRule<'m>>,
     // the connections of front proxies, by place
     fronts: Places<FrontConnection>,

@@ -49,7 +49,7 @@ pub(crate) struct HostNetwork<'r, R: Net + Files + Clock + Input> {
     admin_ready: AdminReady,
     /// Whether the server is to end.
     pub(crate) drains: bool,
-    // why the control plane could not be reached, if that was not told yet
+    // why the control plane could not be reached, if that was not reported yet
     unreached: Option<String>,
 }
 
@@ -77,7 +77,7 @@ impl<'r, R: Net + Files + Clock + Input> HostNetwork<'r, R> {
         port.turn(&mut self.sockets, &mut self.admin_ready, admin, now)
     }
 
-    /// Why the control plane could not be reached, if that was not told yet.
+    /// Why the control plane could not be reached, if that was not reported yet.
     pub(crate) fn take_unreached(&mut self) -> Option<String> {
         self.unreached.take()
     }

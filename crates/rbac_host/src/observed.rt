@@ -28,7 +28,7 @@ pub(crate) struct ObservedWorker<'r, R: Clock, F: LogFiles + Drop> {
     pub(crate) logs: Logs<F>,
     /// How many decisions were made since the steps of one were counted.
     pub(crate) decisions: u64,
-    /// Why a connection could not be accepted, if that was not told yet.
+    /// Why a connection could not be accepted, if that was not reported yet.
     pub(crate) refused: Option<io::Error>,
 }
 

@@ -1,4 +1,4 @@
-//! How the requests of a front proxy tell those of its clients.
+//! How the requests of a front proxy give those of its clients.
 
 use crate::front_faults::{meaning_of_map_fault, meaning_of_path_fault};
 use fault_texts::rule_of;
@@ -8,7 +8,7 @@ use http_front::{Case, HeadFault, HeadPart};
 use serve_config::{Paths, ServeConfig};
 use std::alloc::{AllocError, Global};
 
-/// How the requests of a front proxy tell those of its clients.
+/// How the requests of a front proxy give those of its clients.
 #[derive(Clone, Copy)]
 pub(crate) struct MappingRule<'m> {
     mapping: &'m Mapping,
@@ -27,7 +27,7 @@ impl<'m> MappingRule<'m> {
         Some(MappingRule { mapping, paths })
     }
 
-    /// The request of the client, as this one of its front tells it.
+    /// The request of the client, as this one of its front gives it.
     pub(crate) fn client_of(
         self,
         alloc: Global,

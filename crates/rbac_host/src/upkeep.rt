@@ -10,11 +10,11 @@ use std::io::{ErrorKind, Input, Read, Write};
 use std::net::Net;
 use std::rt::Clock;
 
-/// How often the memory that the process takes is read, and complaints are looked for, in milliseconds.
+/// How often the memory that the process takes is read, and faults of logs are reported, in milliseconds.
 const PAUSE: u64 = 1_000;
-/// How often it is told at most that connections cannot be accepted, or that the record was removed, in milliseconds.
+/// How often it is reported at most that connections cannot be accepted, or that the record was removed, in milliseconds.
 const SILENCE: u64 = 60_000;
-/// How many logs there are, of which each may complain.
+/// How many logs there are, of which each may report its faults.
 const LOGS: u8 = 3;
 /// The size of a page of memory in bytes, on x86-64.
 const PAGE: u64 = 4_096;
@@ -25,11 +25,11 @@ pub(crate) struct Upkeep {
     errors: LogWriter,
     // the path of the record, if there is one
     record: Option<String>,
-    // when it was last told that the record was removed; none if it was not
+    // when it was last reported that the record was removed; none if it was not
     missed: Option<u64>,
-    // when complaints were last looked for
+    // when faults of logs were last reported
     looked: u64,
-    // when it was last told that connections cannot be accepted; none if it was not
+    // when it was last reported that connections cannot be accepted; none if it was not
     reported: Option<u64>,
     // how many dropped lines were counted
     dropped: u64,

@@ -28,7 +28,7 @@ pub some_bytes : (input : Option (List ℕ)) → (bytes : List ℕ) × IsAllOf i
 some_bytes (Some all) = (all, refl)
 some_bytes None = ([], tt)
 
--- what explains a request does where less is told
+-- what explains a request does where less is reported
 less_explains : (r : RequestValue) (filter : Filter CelChecked) (explanation : Explanation)
     → Explains r filter explanation → Explains r filter (without_trials explanation)
 less_explains r filter explanations.Absent explains = tt
@@ -68,7 +68,7 @@ module _ (policy : List ℕ) (budget : ℕ) (facts : Facts) (bytes : List ℕ) w
   found_as name explanation other outcomes.OutOfSteps explains found = found
   found_as name explanation other (outcomes.Admitted policies bound) explains found = found
 
-  -- an outcome is one where less is told
+  -- an outcome is one where less is reported
   pub less_found : (name : Option (List ℕ)) (explanation : Explanation) (outcome : Outcome)
       → IsOutcomeOf policy budget facts bytes name explanation outcome
       → IsOutcomeOf policy budget facts bytes name (without_trials explanation) outcome

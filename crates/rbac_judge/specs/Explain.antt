@@ -38,13 +38,13 @@ abbrev pub own_trial_view : OwnTrial → TrialValue
 own_trial_view trial =
     record { number = trial.number; name = string_bytes trial.name; reason = trial.reason }
 
--- a trial as it is told, with the texts of its causes: the leaves of its rules that decide, and the part of its condition
+-- a trial as it is reported, with the texts of its causes: the leaves of its rules that decide, and the part of its condition
 -- that an error is from
 pub record ReportedTrial : Type 0 where
   pub trial : TrialValue
   pub causes : List (List ℕ)
 
--- what is told of a trial
+-- what is reported of a trial
 abbrev pub reported_trial_view : OwnTrial → ReportedTrial
 reported_trial_view trial =
     record { trial = own_trial_view trial; causes = map string_bytes trial.causes.items }

@@ -344,7 +344,7 @@ fn report_of_head(
     Ok(finding.report(true).with_why(why))
 }
 
-/// Why a line is no JSON text, in words for its author. The place is told without a line's number, since the answer has
+/// Why a line is no JSON text, in words for its author. The place is reported without a line's number, since the answer has
 /// that of the line.
 pub(crate) fn cause_of_no_json(
     alloc: Global,

@@ -10,7 +10,7 @@ use rbac_policy::{WrittenCondition, written_condition};
 use std::alloc::{AllocError, Global};
 use std::sync::ArcStr;
 
-/// How many characters of a text are told at most.
+/// How many characters of a text are reported at most.
 const SHOWN: usize = 100;
 
 /// How many steps the search for the part takes at most.

@@ -13,7 +13,7 @@ use stack_machine::RunError;
 use std::alloc::{AllocError, Global};
 use std::fmt;
 
-/// How many causes of each side of a policy are told at most.
+/// How many causes of each side of a policy are reported at most.
 const CAUSES: usize = 8;
 
 /// Whether a verdict is explained, and the bytes of the policy file, in which errors of conditions are placed.

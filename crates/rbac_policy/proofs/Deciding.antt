@@ -65,7 +65,7 @@ module _ (limits : LimitsValue) (r : RequestValue) (valid : IsRequest r) where
   condition_reported b (Some c) None is good reported = absurd is
   condition_reported b (Some c) (Some q) is good reported = run_is_met limits c q good is r valid b reported
 
-  -- what the runs tell is whether the policy matches
+  -- what the runs say is whether the policy matches
   reported : (p : Policy CelChecked) (v : Policy Program) → Stands v p → (b : Bool) → MatchesByRun r v b → b ≡ matches p
   reported p v (is, good) b (inl (fails_to, fails)) =
       let sides : sides_match r p ≡ false = sym (same_sides p v is) ∙ fails_to in
@@ -86,7 +86,7 @@ module _ (limits : LimitsValue) (r : RequestValue) (valid : IsRequest r) where
   asks_here P None (Some q) is good out = let clash : Some q ≡ None = is in cc
   asks_here P (Some d) (Some q) is good out = (d, refl, good, (q, is, out))
 
-  -- no run both tells and passes its bound
+  -- no run both says and passes its bound
   matches_or_exceeds : (c : CelChecked) → TakesTooLong limits r c → (p : Policy CelChecked) (v : Policy Program) → Stands v p
       → (b : Bool) → MatchesByRun r v b → sides_match r p ≡ true → p.condition ≡ Some c → ⊥
   matches_or_exceeds c (q, of, out) p v (is, good) b (inl (fails_to, fails)) sides at =
@@ -105,7 +105,7 @@ module _ (limits : LimitsValue) (r : RequestValue) (valid : IsRequest r) where
 
   -- ---- policies in their order
 
-  -- the first whose runs tell that it matches is the first that matches
+  -- the first whose runs say that it matches is the first that matches
   first_is : (i : ℕ) (vs : List (List ℕ × Policy Program)) (ps : List (List ℕ × Policy CelChecked)) (o : Option ℕ)
       → Beside Stands vs ps → IsFirst r i (map (λ e. e.1) vs) o → o ≡ position_from (λ e. matches e.1) i ps
   first_is i [] ps o beside none = rw beside none
@@ -155,7 +155,7 @@ module _ (limits : LimitsValue) (r : RequestValue) (valid : IsRequest r) where
       } in
       (it.0, subst (λ xs. AskedIn xs it.0) (sym made) asked, it.2, it.3)
 
-  -- where a condition that is asked for takes too long, no first one is told
+  -- where a condition that is asked for takes too long, no first one is reported
   asked_or_first : (c : CelChecked) → TakesTooLong limits r c → (i : ℕ) (vs : List (List ℕ × Policy Program))
       (ps : List (List ℕ × Policy CelChecked)) (o : Option ℕ) → T (is_sorted name_cmp ps)
       → Beside Stands vs ps → IsFirst r i (map (λ e. e.1) vs) o → AskedIn ps c → ⊥
@@ -290,7 +290,7 @@ module _ (enforced : Filter Program) (list : List Token) (items : List NamedPoli
         let (q, of, out) = it.3 in
         within_bound limits it.0 q it.2 of r valid inside out
 
-    -- where a condition that is asked for takes too long, no first one is told
+    -- where a condition that is asked for takes too long, no first one is reported
     pub asked_is_reported : SomeAsked (is_met r) (TakesTooLong limits r) r filter → (o : Option ℕ)
         → IsFirst r 0 (map (policy_view list) items) o → ⊥
     asked_is_reported (c, (name, has, lesser), long) o first =

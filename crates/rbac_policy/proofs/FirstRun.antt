@@ -1,4 +1,4 @@
--- The loop over a filter's policies: those before the present one told that they do not match.
+-- The loop over a filter's policies: those before the present one reported that they do not match.
 use Rattle.std.proofs.Common.{arith, ◌≡◌, inl, inr, ℕ, ◌+◌, ◌<◌, true, false, List, [], ◌∷◌, ◌++◌, length, take, drop, get_or, map, Some, None, refl, sym, ap, subst, ◌∙◌, add-zero, zero-add}
 use Rattle.std.proofs.lemmas.List.{append_assoc, length-map, map-append, take-append-drop, length-take-le, take_more}
 use Rattle.std.specs.List.{AllByRecursion}
@@ -13,7 +13,7 @@ use Rattle.rbac_policy.specs.declared.policy.NamedPolicy.{NamedPolicy}
 use Rattle.rbac_policy.specs.private.Runs.{Asks, HaveNoConditions, IsFirst, OnePolicyAsks, MatchesByRun}
 
 module _ (r : RequestValue) where
-  -- all told that they do not match
+  -- all reported that they do not match
   abbrev pub Failed : List (Policy Program) → Type 0
   Failed ps = AllByRecursion (λ p. MatchesByRun r p false) ps
 

@@ -109,7 +109,7 @@ policy_at list items i item within is =
     ∙ ap (option_map (policy_view list)) (slice_get-get_or items i item within)
     ∙ ap (λ x. Some (policy_view list x)) (sym is)
 
--- one that is ruled out tells that it does not match
+-- one that is ruled out says that it does not match
 pub ruled_out_matches : (r : RequestValue) (list : List Token) (items : List NamedPolicy) (i : ℕ) (item : NamedPolicy) → i < length items → item ≡ get_or items i item
     → IsRuledOut i r (map (policy_view list) items) → MatchesByRun r (policy_view list item) false
 ruled_out_matches r list items i item within is ruled = inl (ruled (policy_view list item) (policy_at list items i item within is), refl)

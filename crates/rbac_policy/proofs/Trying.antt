@@ -146,7 +146,7 @@ module _ (r : RequestValue) where
   unmatched_all number (x ∷ es) [] none = none
   unmatched_all number (x ∷ es) (u ∷ trials) (a, b, c, d, rest) = (a, b, c, rw d (unmatched_all (number + 1) es trials rest))
 
-  -- a reason not to match tells that the policy does not match
+  -- a reason not to match says that the policy does not match
   unmatched_by_run : (v : Policy Program) (reason : Reason) → HasRunReason r v reason → is_match reason ≡ false → MatchesByRun r v false
   unmatched_by_run v NoPermission h other = inl (ap (λ b. b && some_hold r v.principals) h, refl)
   unmatched_by_run v NoPrincipal h other =
@@ -205,11 +205,11 @@ module _ (r : RequestValue) where
       reported_match matches =
           rw split (unmatched_match 0 (named_views list (take i items)) (named_views list (drop (i + 1) items)) trials ((named_view list) item) t before (number ∙ count) name has matches)
 
-  -- the policies that were tried told that they do not match
+  -- the policies that were tried reported that they do not match
   pub tried_failed : (list : List Token) (items : List NamedPolicy) (trials : List Trial) → TriedWithoutMatch 0 (named_views list items) trials → Failed r (map (policy_view list) items)
   tried_failed list items trials before = subst (Failed r) (views_are list items) (unmatched_failed 0 (named_views list items) trials before)
 
-  -- a reason to match tells that the policy matches
+  -- a reason to match says that the policy matches
   matched_by_run : (v : Policy Program) (reason : Reason) → HasRunReason r v reason → is_match reason ≡ true → MatchesByRun r v true
   matched_by_run v NoPermission h matches = let clash : false ≡ true = matches in absurd cc
   matched_by_run v NoPrincipal h matches = let clash : false ≡ true = matches in absurd cc
@@ -223,7 +223,7 @@ module _ (r : RequestValue) where
       by None h = absurd h
       by (Some q) ((took, ends, within), rest) = (value (bool true), took, ends, within, refl)
 
-  -- trials tell which is the first policy that matches
+  -- trials say which is the first policy that matches
   first_of : (i : ℕ) (es : List (List ℕ × Policy Program)) (trials : List Trial) → AreTrials (HasRunReason r) i es trials
       → (o : Option ℕ) × IsFirst r i (map (λ e. e.1) es) o
   first_of i [] trials none = (None, refl)

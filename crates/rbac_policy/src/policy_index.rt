@@ -198,7 +198,7 @@ fn needs_of(
     Ok(needs)
 }
 
-/// Whether fewer than half of the needs can tell requests apart: every path has at least the start `/`.
+/// Whether fewer than half of the needs can distinguish requests: every path has at least the start `/`.
 fn are_few(needs: &[Need]) -> bool {
     let mut count: usize = 0;
     for need in needs {

@@ -65,7 +65,7 @@ same_reached old new gs requests same reached =
 
 -- ---- the events of a connection
 
--- a call of `is_none` tells whether there is none
+-- a call of `is_none` says whether there is none
 pub none_reported : (front : Option FrontValue) (none : Bool) → is_some front ≡ not none → none ≡ is_none front
 none_reported None true is = refl
 none_reported None false is = absurd cc

@@ -128,7 +128,7 @@ pub none_up : (stream : Option (List ℕ)) → is_some stream ≡ false → stre
 none_up None down = refl
 none_up (Some rest) down = absurd (true≢false down)
 
--- what a client tells of a stream that is up
+-- what a client says of a stream that is up
 pub judges_up : (old : WorkerValue) (bytes : List ℕ) (count : ℕ) (js : List Judgement) (ends : Option Ended)
     (new : WorkerValue) (stream : Option (List ℕ)) → old.requests ≡ [] → old.core.client.stream ≡ stream
     → is_some stream ≡ true

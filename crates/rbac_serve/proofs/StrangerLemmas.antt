@@ -1,4 +1,4 @@
--- How many bytes tell HTTP/2.
+-- How many bytes show HTTP/2.
 use Rattle.std.proofs.Common.{◌≡◌, ◌≤◌, ℕ, List, [], ◌∷◌, drop, length, arith}
 use Rattle.rbac_serve.specs.Strangers.{IsOfStreamZero}
 

@@ -4,7 +4,7 @@ ghost use Rattle.rbac_serve.specs.Strangers.{IsHttp2, IsOfStreamZero, IsSettings
 
 use crate::network::Loss;
 
-/// How many bytes of a stream tell another protocol.
+/// How many bytes of a stream show another protocol.
 pub(crate) const ENOUGH: usize = 9;
 
 /// The loss of a stream whose first bytes are of another protocol, if they are. That is the SETTINGS frame with which

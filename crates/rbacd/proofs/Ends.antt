@@ -25,7 +25,7 @@ module _ (holds : List ℕ → List ℕ → Type 0) (lacks : (List ℕ × IoErro
 
 module _ (holds : List ℕ → List ℕ → Type 0) (lacks : (List ℕ × IoError) → Type 0)
     (connects accepts : List ℕ → Option Link → Type 0) (out out_new errors errors_new : Option (List ℕ)) (status : ℕ) where
-  -- where the words name no job, that is told, or out of memory
+  -- where the words name no job, that is reported, or out of memory
   pub end_of_words : (input : Option (List ℕ)) (words : List (List ℕ)) (error : Error) (fault reported : JobFault)
       → (kind_of error ≡ kinds.OutOfMemory → fault ≡ faults.Memory)
       → (fault ≡ faults.Memory) ⊎ (fault ≡ faults.Words error)

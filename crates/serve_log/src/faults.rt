@@ -5,7 +5,7 @@ use crate::waiting::Lost;
 use std::alloc::{AllocError, Global};
 use std::{fmt, io};
 
-/// How long nothing is said after a complaint, in milliseconds.
+/// How long nothing is said after a report, in milliseconds.
 const QUIET: u64 = 60_000;
 
 /// Why a line is lost or a file cannot be used.
@@ -61,11 +61,11 @@ impl Fault {
     }
 }
 
-/// The faults of a log: how many lines were lost, and what the next complaint says.
+/// The faults of a log: how many lines were lost, and what the next report says.
 #[derive(Drop)]
 pub(crate) struct LogFaults {
     dropped: u64,
-    // how many were lost at the last complaint
+    // how many were lost at the last report
     reported: u64,
     // the first fault since then
     fault: Option<Fault>,
@@ -123,7 +123,7 @@ impl LogFaults {
     }
 }
 
-/// The text of a complaint.
+/// The text of a report.
 fn text_of(
     alloc: Global,
     name: &str,

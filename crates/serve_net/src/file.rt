@@ -25,7 +25,7 @@ enum Contents {
 // Where contents wait for their stream. Newer ones replace those that wait.
 type Inbox = Arc<Cell<Option<Contents>>, Global>;
 
-/// What tells one state of a file from another: which file it is, its length, and when its contents and its inode were
+/// What distinguishes one state of a file from another: which file it is, its length, and when its contents and its inode were
 /// last changed. Programs can set the first time back, but not the second.
 #[derive(Clone, Copy, PartialEq, Eq)]
 struct Stamp {

@@ -14,7 +14,7 @@ pub(crate) enum StandardInput {
     Ignored,
     /// The system reports it: a pipe, a terminal or a socket. It is read once after each report, so that no read waits.
     Reported,
-    /// Reads tell of it: a file or `/dev/null`, which the system does not report and whose reads do not wait. It is read
+    /// Reads report it: a file or `/dev/null`, which the system does not report and whose reads do not wait. It is read
     /// at each wait.
     Read,
 }

@@ -183,7 +183,7 @@ pub(crate) fn opened(
     token: Token,
 ) -> io::Result<NetStream> {
     let mut stream = stream;
-    // fails where the other end has gone, of which the first read tells
+    // fails where the other end has gone, which the first read reports
     let _ = stream.set_nodelay(true);
     registry.register(&mut stream, token, Interest::READABLE | Interest::WRITABLE)?;
     Ok(NetStream::Tcp(TcpLink::accepted(stream)))

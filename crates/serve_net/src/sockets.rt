@@ -182,7 +182,7 @@ impl<'r, R: Net + Files + Clock + Input> Sockets<'r, R> {
         self.admin.as_ref()?.local_addr().ok()
     }
 
-    /// The milliseconds since 1970; 0 if the system does not tell.
+    /// The milliseconds since 1970; 0 if the system does not say.
     pub fn now_unix(&self) -> u64 {
         match self.rt.since_1970() {
             Ok(passed) => u64::try_from(passed.as_millis()).unwrap_or(u64::MAX),

@@ -34,7 +34,7 @@ step_sure : (r : Result Output AllocError) (old new : ProxyValue) (event : Event
 step_sure (Ok out) old new event found sure = (output_view out, found)
 step_sure (Err e) old new event found sure = absurd (false≢true sure)
 
--- the loss of the update stream is sure to be told, and the closing of a connection
+-- the loss of the update stream is sure to be reported, and the closing of a connection
 pub loss_reported : (r : Result Output AllocError) (old new : ProxyValue)
     → IfOk r (λ out. StepsBy old ads_lost (output_view out) new) → IsOk r → new ≡ with_client old (stream_down old.client)
 loss_reported r old new found sure = (step_sure r old new ads_lost found sure).1.1

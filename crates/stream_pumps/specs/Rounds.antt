@@ -1,4 +1,4 @@
--- The rounds of a proxy: in each round it hears its update stream, and serves one connection.
+-- The rounds of a proxy: in each round it reads its update stream, and serves one connection.
 use Rattle.std.specs.Prelude.{◌≡◌, ◌⊎◌, ℕ, zero, suc, Bool, true, false, List, Option, Some, None, Result, Ok, Err}
 use Rattle.attributes.specs.Conn.{Facts}
 use Rattle.proxy_core.specs.Step.{ProxyValue}

@@ -47,7 +47,7 @@ impl<W: Write + Drop> Log<W> {
         }
     }
 
-    /// Logs how a proxy's client judged the responses that it received. If it ended the stream, the line on that tells
+    /// Logs how a proxy's client judged the responses that it received. If it ended the stream, the line on that says
     /// why.
     pub(crate) fn log_judgements(
         &mut self,

@@ -1,4 +1,4 @@
--- Guests in their places (this project's own).
+-- Connections in their places (this project's own).
 use Rattle.std.specs.Prelude.{◌≡◌, ℕ, zero, suc, Bool, false, Option, Some, None, List, [], ◌∷◌, is_none}
 use Rattle.ads.specs.Answer.{Accepted}
 use Rattle.http_front.specs.Front.{FrontValue}

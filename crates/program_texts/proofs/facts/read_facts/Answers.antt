@@ -1,4 +1,4 @@
--- Bytes that are no text, or no text of facts, tell none.
+-- Bytes that are no text, or no text of facts, give none.
 use Rattle.std.proofs.Common.{◌≡◌, List, ℕ, Result, Ok, Err, IfErr, Some, None, inl, inr}
 use Rattle.std.proofs.lemmas.Result.{err_from_is_err_and}
 use Rattle.attributes.specs.Conn.{Facts}
@@ -9,13 +9,13 @@ use Rattle.program_texts.specs.declared.facts.FactsFault.{FactsFault}
 use Rattle.program_texts.specs.declared.facts.FactsFault.TheVariants.{Bad}
 use Rattle.program_texts.proofs.facts.read_facts.Goals as goal
 
--- a text tells the facts of its one value
+-- a text gives the facts of its one value
 of_value : (text : List ℕ) (d : Data) (f : Facts) → read text ≡ Some d → IsFactsText text f → AreFacts d f
 of_value text d f is reported =
     let same : reported.1.0 ≡ d = cc (reported.1.1) in
     rw same at reported.1.2
 
--- what is no JSON text tells no facts
+-- what is no JSON text gives no facts
 of_none : (text : List ℕ) (f : Facts) → read text ≡ None → IsFactsText text f → ⊥
 of_none text f none reported = cc (reported.1.1)
 

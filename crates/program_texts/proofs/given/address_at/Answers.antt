@@ -6,7 +6,7 @@ use Rattle.serde_json.specs.Data.{Data}
 use Rattle.program_texts.specs.Facts.{IsAddress, IsText, BothOrNone}
 use Rattle.program_texts.proofs.given.address_at.Goals as goal
 
--- what tells an address tells its text
+-- what gives an address gives its text
 text_of_address : (d : Option Data) (ip : Option Ip) → BothOrNone IsAddress d ip
     → (text : Option (List ℕ)) × BothOrNone IsText d text
 text_of_address None None reported = (None, reported)

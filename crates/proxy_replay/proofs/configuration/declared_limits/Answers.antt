@@ -1,4 +1,4 @@
--- Where a limit is not told, limits are not declared.
+-- Where a limit is not given, limits are not declared.
 use Rattle.std.proofs.lemmas.Result.{err_from_is_err_and, IfOk-weaker}
 use Rattle.attributes.specs.declared.limits.Limit.{Limit}
 use Rattle.proxy_replay.proofs.ConfigurationLemmas.{declares, declares_none, on_err_by}

@@ -1,4 +1,4 @@
--- Where a member is not told, no event of the kind is.
+-- Where a member is not given, no event of the kind is.
 use Rattle.std.proofs.Common.{◌≡◌, ◌∙◌, ℕ, List}
 use Rattle.std.proofs.lemmas.Result.{err_from_is_err_and}
 use Rattle.attributes.specs.Conn.{Facts}
@@ -10,7 +10,7 @@ use Rattle.proxy_replay.specs.declared.lines.EventKind.{EventKind}
 use Rattle.proxy_replay.proofs.lines.parts_at.Goals as goal
 
 module _ (d : Data) where
-  -- bytes for the update stream are told in `hex`
+  -- bytes for the update stream are given in `hex`
   of_stream : (e : EventValue) → kind_of e ≡ EventKind.AdsBytes → HasParts d e → (bytes : List ℕ) × HasHex d bytes
   of_stream ads_up same parts = absurd (let clash = same in cc)
   of_stream (ads_bytes bytes) same parts = (bytes, parts)
