@@ -46,41 +46,41 @@ module _ (name : List ℕ) where
       by false = behind
 
   -- a resource of the name stands among the extensions of it
-  named_some : (Q : ExtensionMessage → Type 0) (anys : List AnyMessage) (xs : List ExtensionMessage)
-      → AllZip IsResource anys xs
-      → SomeOf (λ any. (x : ExtensionMessage) × IsResource any x × (x.name ≡ name) × Q x) anys
+  named_some : (Q : ExtensionMessage → Type 0) (any_messages : List AnyMessage) (xs : List ExtensionMessage)
+      → AllZip IsResource any_messages xs
+      → SomeOf (λ any. (x : ExtensionMessage) × IsResource any x × (x.name ≡ name) × Q x) any_messages
       → SomeOf Q (named name xs)
   named_some Q [] xs all some = absurd some
-  named_some Q (any ∷ anys) [] all some = absurd all
-  named_some Q (any ∷ anys) (x ∷ xs) (is, all) (inl (also, is', same, q)) =
+  named_some Q (any ∷ any_messages) [] all some = absurd all
+  named_some Q (any ∷ any_messages) (x ∷ xs) (is, all) (inl (also, is', same, q)) =
       let one : also ≡ x = extension_unique any.value also x is'.reads is.reads in
       let same' : x.name ≡ name = subst (λ (y : ExtensionMessage). y.name ≡ name) one same in
       rw (named_first x xs same') (inl (subst Q one q))
-  named_some Q (any ∷ anys) (x ∷ xs) (is, all) (inr some) =
-      let more = named_some Q anys xs all some in
+  named_some Q (any ∷ any_messages) (x ∷ xs) (is, all) (inr some) =
+      let more = named_some Q any_messages xs all some in
       named_behind (SomeOf Q) x xs more (inr more)
 
-  some_named : (anys : List AnyMessage) (xs : List ExtensionMessage) → AllZip IsResource anys xs
-      → SomeOf (IsNamed name) anys → 1 ≤ length (named name xs)
+  some_named : (any_messages : List AnyMessage) (xs : List ExtensionMessage) → AllZip IsResource any_messages xs
+      → SomeOf (IsNamed name) any_messages → 1 ≤ length (named name xs)
   some_named [] xs all some = absurd some
-  some_named (any ∷ anys) [] all some = absurd all
-  some_named (any ∷ anys) (x ∷ xs) (is, all) (inl (also, is', same)) =
+  some_named (any ∷ any_messages) [] all some = absurd all
+  some_named (any ∷ any_messages) (x ∷ xs) (is, all) (inl (also, is', same)) =
       let one : also ≡ x = extension_unique any.value also x is'.reads is.reads in
       rw (named_first x xs (subst (λ (y : ExtensionMessage). y.name ≡ name) one same)) (omega arith)
-  some_named (any ∷ anys) (x ∷ xs) (is, all) (inr some) =
-      let more = some_named anys xs all some in
+  some_named (any ∷ any_messages) (x ∷ xs) (is, all) (inr some) =
+      let more = some_named any_messages xs all some in
       named_behind (λ ys. 1 ≤ length ys) x xs more (omega (arith, more))
 
-  two_named : (anys : List AnyMessage) (xs : List ExtensionMessage) → AllZip IsResource anys xs
-      → TwoOf (IsNamed name) anys → 2 ≤ length (named name xs)
+  two_named : (any_messages : List AnyMessage) (xs : List ExtensionMessage) → AllZip IsResource any_messages xs
+      → TwoOf (IsNamed name) any_messages → 2 ≤ length (named name xs)
   two_named [] xs all two = absurd two
-  two_named (any ∷ anys) [] all two = absurd all
-  two_named (any ∷ anys) (x ∷ xs) (is, all) (inl ((also, is', same), some)) =
+  two_named (any ∷ any_messages) [] all two = absurd all
+  two_named (any ∷ any_messages) (x ∷ xs) (is, all) (inl ((also, is', same), some)) =
       let one : also ≡ x = extension_unique any.value also x is'.reads is.reads in
-      let more = some_named anys xs all some in
+      let more = some_named any_messages xs all some in
       rw (named_first x xs (subst (λ (y : ExtensionMessage). y.name ≡ name) one same)) (omega (arith, more))
-  two_named (any ∷ anys) (x ∷ xs) (is, all) (inr two) =
-      let more = two_named anys xs all two in
+  two_named (any ∷ any_messages) (x ∷ xs) (is, all) (inr two) =
+      let more = two_named any_messages xs all two in
       named_behind (λ ys. 2 ≤ length ys) x xs more (omega (arith, more))
 
 -- ---- what a filter is given

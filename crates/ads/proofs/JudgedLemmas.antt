@@ -23,7 +23,7 @@ use Rattle.ads.specs.Answer.{Gives, HoldsFilter, named, IsResource, IsNamed, IsR
 use Rattle.ads.specs.Judgements.{FirstAt, IsRefusedAs, IsRefusedBy, Unfit, another_type, message_refused, two_extensions}
 use Rattle.ads.specs.Views.{admitted_view, policies_view}
 use Rattle.ads.specs.private.Taking.{IsFirstUnfit, MatchNotAccepted, RunsOut, taking, IsJudged, given_of}
-use Rattle.ads.specs.declared.refused.Refusing.{Refusing}
+use Rattle.ads.specs.declared.refused.RefusalCause.{RefusalCause}
 use Rattle.ads.specs.declared.judging.Judged.{Judged}
 use Rattle.ads.specs.declared.judging.Judged.TheVariants as judged
 use Rattle.ads.specs.declared.refused.NotAccepted.{NotAccepted}
@@ -78,7 +78,7 @@ two_named n a b more (r ∷ rs) (x ∷ xs) (is, all) two =
         inl (here, some_weaker _ (IsNamed n) (λ any p. (p.0, p.1, p.2)) rs there)
     by false eq list rest some = inr (rest list)
 
-pub not_accepted_weaker : (P Q : Refusing → Type 0) (M N : Type 0) → ((e : Refusing) → P e → Q e) → (M → N)
+pub not_accepted_weaker : (P Q : RefusalCause → Type 0) (M N : Type 0) → ((e : RefusalCause) → P e → Q e) → (M → N)
     → (n : NotAccepted) → MatchNotAccepted P M n → MatchNotAccepted Q N n
 not_accepted_weaker P Q M N weaker less (not_accepted.Refused e) p = weaker e p
 not_accepted_weaker P Q M N weaker less not_accepted.NoMemory m = less m

@@ -19,7 +19,7 @@ use Rattle.ads.specs.declared.judgement.ResponseOutcome.{ResponseOutcome}
 use Rattle.ads.specs.declared.judgement.ResponseOutcome.TheVariants as outcomes
 use Rattle.ads.specs.declared.judgement.Refused.{Refused}
 use Rattle.ads.specs.declared.judging.Judged.TheVariants as judged
-use Rattle.ads.specs.declared.refused.Refusing.{Refusing}
+use Rattle.ads.specs.declared.refused.RefusalCause.{RefusalCause}
 use Rattle.ads.specs.private.Taking.{IsJudged}
 use Rattle.ads.proofs.AnswerLemmas.{refused_answer}
 use Rattle.ads.proofs.JudgedLemmas.{refused_by}
@@ -99,7 +99,7 @@ accepted_as c response old new j given filters (type_url, extensions, reads, giv
 
 -- a response that is refused is judged as refused, with the same fault
 pub refused_as : (c : ConfigValue) (response : ResponseMessage) (old new : Accepted) (j : Judgement) (r : Refused)
-    (refusing : Refusing) → IsJudged c response (judged.Refused refusing)
+    (refusing : RefusalCause) → IsJudged c response (judged.Refused refusing)
     → string_bytes j.version ≡ response.version_info → string_bytes j.nonce ≡ response.nonce
     → j.outcome ≡ outcomes.Refused r
     → (r.fault ≡ refusing.fault) × (r.filter ≡ refusing.filter) × (r.message.items ≡ refusing.message.now)

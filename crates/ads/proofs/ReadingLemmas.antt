@@ -10,7 +10,7 @@ use Rattle.ads.specs.Answer.{FirstOf, ResourceFault, extension_type, nameless, u
 use Rattle.ads.specs.Judgements.{IsWrong}
 use Rattle.ads.specs.declared.judging.Judged.TheVariants as judged
 use Rattle.ads.specs.declared.refused.NotAccepted.{NotAccepted}
-use Rattle.ads.specs.declared.refused.Refusing.{Refusing}
+use Rattle.ads.specs.declared.refused.RefusalCause.{RefusalCause}
 use Rattle.ads.specs.private.Taking.{IsJudged, IsWhole, IsWholeRefused, MatchNotAccepted, ReadFault, Reads, RunsOut, reading}
 use Rattle.ads.proofs.JudgedLemmas.{not_accepted_weaker}
 use Rattle.ads.proofs.Lists.{first_some, first_weaker, some_weaker}
@@ -51,7 +51,7 @@ resources_wrong response read apart e same other is fault =
     (first_some Reads _ response.resources first))
 
 -- a response that is wrong is refused as wrong itself
-wrong_refused : (c : ConfigValue) (response : ResponseMessage) (e : Refusal) → IsWrong response e → (r : Refusing)
+wrong_refused : (c : ConfigValue) (response : ResponseMessage) (e : Refusal) → IsWrong response e → (r : RefusalCause)
     → IsWhole e r → IsJudged c response (judged.Refused r)
 wrong_refused c response e wrong r (same, none, empty) = rw none (rw same wrong, empty)
 

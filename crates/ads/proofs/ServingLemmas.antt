@@ -310,7 +310,7 @@ served_since snapshots request old new replies numbers ends (ignored x y z nothi
 pub taken_so : (snapshots : List (List ResourceValue)) (request : RequestMessage) (old now : ServedValue)
     (before after : List ℕ) (xs ys : List Exchange) (x : Exchange) (ends reported : Bool) → reported ≡ ends
     → IsServed snapshots request old before after now reported → string_bytes x.version ≡ request.version_info
-    → string_bytes x.nonce ≡ request.response_nonce → Says request x.word → x.sent ≡ sent_since old.sent now
+    → string_bytes x.nonce ≡ request.response_nonce → Says request x.meaning → x.sent ≡ sent_since old.sent now
     → ys ≡ xs ++ x ∷ [] → (replies numbers : List ℕ) × (y : Exchange)
     × Serves snapshots request old replies numbers now ends × IsExchange request replies y
     × (after ≡ before ++ replies) × (ys ≡ xs ++ y ∷ [])

@@ -16,7 +16,7 @@ use Rattle.ads.specs.Answer.{AdmittedValue, FirstOf, Gives, RefusesNothing, name
 use Rattle.ads.specs.Views.{entries_view, entry_view}
 use Rattle.ads.specs.Judgements.{Unfit}
 use Rattle.ads.specs.private.Taking.{IsFirstUnfit, filter_of}
-use Rattle.ads.specs.declared.refused.Refusing.{Refusing}
+use Rattle.ads.specs.declared.refused.RefusalCause.{RefusalCause}
 use Rattle.ads.specs.Views.{policies_view}
 use Rattle.ads.proofs.Lists.{first_middle, first_place, zip_push}
 
@@ -58,7 +58,7 @@ module _ (limits : LimitsValue) (xs : List ExtensionMessage) (yielded : List (Bo
       (filter_of (string_bytes name.now) budget.now) (entries_view after) so_far here)
 
   -- the filter is the first that refuses, and is reported
-  pub refuses_here : (given : List (Option Admitted)) (count : ℕ) (e reported : Refusing)
+  pub refuses_here : (given : List (Option Admitted)) (count : ℕ) (e reported : RefusalCause)
       → AllZip (λ f. Gives limits f (named f.name xs)) (entries_view (map deref_pair yielded)) (policies_view given)
       → count ≡ length given → reported.fault ≡ e.fault → reported.filter ≡ Some count → reported.message ≡ e.message
       → Unfit limits xs (filter_of text budget.now) e.fault e.message.now

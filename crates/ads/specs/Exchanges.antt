@@ -11,11 +11,11 @@ use Rattle.ads.specs.declared.ended.Ended.{Ended}
 use Rattle.ads.specs.declared.ended.Ended.TheVariants as ended
 use Rattle.ads.specs.declared.exchange.Exchange.{Exchange}
 use Rattle.ads.specs.declared.exchange.Sent.{Sent}
-use Rattle.ads.specs.declared.exchange.Word.{Word}
-use Rattle.ads.specs.declared.exchange.Word.TheVariants as words
+use Rattle.ads.specs.declared.exchange.RequestMeaning.{RequestMeaning}
+use Rattle.ads.specs.declared.exchange.RequestMeaning.TheVariants as words
 
 -- what the request says: it asks for resources, accepts a response, or refuses one with this text
-abbrev pub Says : RequestMessage → Word → Type 0
+abbrev pub Says : RequestMessage → RequestMeaning → Type 0
 Says request words.Asks = (request.error_detail ≡ None) × (request.response_nonce ≡ [])
 Says request words.Accepts = (request.error_detail ≡ None) × (request.response_nonce ≢ [])
 Says request (words.Refuses text) = IsSomeAnd request.error_detail (λ status. string_bytes text ≡ status.message)
@@ -30,7 +30,7 @@ IsSentFor replies (Some s) = (response : ResponseMessage) × (message : List ℕ
 pub record IsExchange (request : RequestMessage) (replies : List ℕ) (x : Exchange) : Type 0 where
   pub version : string_bytes x.version ≡ request.version_info
   pub nonce : string_bytes x.nonce ≡ request.response_nonce
-  pub says : Says request x.word
+  pub says : Says request x.meaning
   pub sent : IsSentFor replies x.sent
 
 -- the message is not a request, because of this fault: nothing is sent or recorded, and the stream ends

@@ -15,7 +15,7 @@ use crate::config::Config;
 use crate::ended::Ended;
 use crate::judgement::{Judgement, Refused, ResponseOutcome};
 use crate::judging::{Judged, judge};
-use crate::refused::{Refusing, memory_apart};
+use crate::refused::{RefusalCause, memory_apart};
 use crate::reply::{put_ack, put_nack};
 use rbac_policy::Admitted;
 use std::alloc::{AllocError, Global};
@@ -115,7 +115,7 @@ fn refuse(
     config: &Config,
     draft: &mut Draft,
     response: &DiscoveryResponse<'_>,
-    refusing: &Refusing<'_>,
+    refusing: &RefusalCause<'_>,
 ) -> Result<(), AllocError>
     requires { IsJudged config.now (response_view response.now) (judged.Refused refusing.now) }
     ensures answered { OnOk result ((old : List (Option AdmittedValue))
@@ -167,7 +167,7 @@ fn filters_given(alloc: Global, given: &[Option<Admitted>]) -> Result<Vec<bool>,
 }
 
 /// The reason, with a copy of the message.
-fn refused_of(alloc: Global, refusing: &Refusing<'_>) -> Result<Refused, AllocError>
+fn refused_of(alloc: Global, refusing: &RefusalCause<'_>) -> Result<Refused, AllocError>
     ensures { IfOk result (λ r. (r.fault ≡ refusing.now.fault) × (r.filter ≡ refusing.now.filter)
         × (r.message.items ≡ refusing.now.message.now)) }
 {

@@ -8,14 +8,14 @@ pub struct Exchange {
     /// The request's nonce: that of the response that it answers. Empty if it answers none.
     pub nonce: String,
     /// What the request says.
-    pub word: Word,
+    pub meaning: RequestMeaning,
     /// The response that was sent for it.
     pub sent: Option<Sent>,
 }
 
 /// What a request says.
 #[derive(Debug, Drop)]
-pub enum Word {
+pub enum RequestMeaning {
     /// It asks for resources, and answers no response.
     Asks,
     /// It accepts a response.

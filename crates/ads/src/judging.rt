@@ -15,7 +15,7 @@ ghost use Rattle.ads.specs.declared.refused.NotAccepted.TheVariants.{NoMemory};
 ghost use Rattle.ads.specs.private.Taking.{IsDoubled, IsFirstUnfit, IsJudged, MatchNotAccepted, ReadFault, Reads, RunsOut, filter_of, given_of};
 
 use crate::config::Config;
-use crate::refused::{NotAccepted, Refusing, memory_apart};
+use crate::refused::{NotAccepted, RefusalCause, memory_apart};
 use attributes::Limits;
 use indexmap::IndexMap;
 use proto_wire::Refusal;
@@ -37,7 +37,7 @@ pub(crate) enum Judged<'a> {
     /// The policies that it gives each filter, in configured order.
     Given(Vec<Option<Admitted>>),
     /// Why it is refused, and where.
-    Refused(Refusing<'a>),
+    Refused(RefusalCause<'a>),
 }
 
 /// Judges a response. The error means out of memory outside of an admission, where nothing that was read is refused.
@@ -165,7 +165,7 @@ fn take<'a>(
     name: &str,
     budget: u64,
     extensions: &[TypedExtensionConfig<'a>],
-) -> Result<Option<Admitted>, Refusing<'a>>
+) -> Result<Option<Admitted>, RefusalCause<'a>>
     ensures found { IfOk result (λ given. Gives limits.now (filter_of name.now budget)
         (named name.now (map extension_view extensions.now)) (option_map admitted_view given)) }
     ensures fault { IfErr result (λ e. Unfit limits.now (map extension_view extensions.now)
@@ -209,7 +209,7 @@ fn admit_extension<'a>(
     limits: &Limits,
     budget: u64,
     extension: &TypedExtensionConfig<'a>,
-) -> Result<Admitted, Refusing<'a>>
+) -> Result<Admitted, RefusalCause<'a>>
     ensures found { IfOk result (λ a. (name : List ℕ)
         → Gives limits.now (filter_of name budget) (extension_view extension.now ∷ []) (Some (admitted_view a))) }
     ensures fault { IfErr result (λ e. (name : List ℕ) (xs : List ExtensionMessage)
@@ -219,7 +219,7 @@ fn admit_extension<'a>(
     let message = filter_bytes(extension)?;
     match admit_at(alloc, message, limits, budget) {
         Ok(admitted) => Ok(admitted),
-        Err(fault) => Err(Refusing {
+        Err(fault) => Err(RefusalCause {
             fault,
             filter: None,
             message,

@@ -24,6 +24,6 @@ pub use client::{Client, Fed};
 pub use config::{Config, ConfigFault, Filter};
 pub use control::{Control, Replied};
 pub use ended::Ended;
-pub use exchange::{Exchange, Sent, Word};
+pub use exchange::{Exchange, RequestMeaning, Sent};
 pub use judgement::{Judgement, Refused, ResponseOutcome};
 pub use snapshot::{Resource, Snapshot};

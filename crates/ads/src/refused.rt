@@ -10,7 +10,7 @@ use std::alloc::{AllocError, AllocFailed};
 
 /// Why a response is refused, and where.
 #[derive(Clone, Copy, Debug)]
-pub(crate) struct Refusing<'a> {
+pub(crate) struct RefusalCause<'a> {
     /// The refusal, and the part of the filter's message that has the fault.
     pub(crate) fault: Fault,
     /// The filter that is refused.
@@ -19,14 +19,14 @@ pub(crate) struct Refusing<'a> {
     pub(crate) message: &'a [u8],
 }
 
-impl<'a> Refusing<'a> {
+impl<'a> RefusalCause<'a> {
     /// The same of the filter at this place.
-    pub(crate) fn at(self, place: usize) -> Refusing<'a>
+    pub(crate) fn at(self, place: usize) -> RefusalCause<'a>
         ensures fault { result.fault ≡ self.entry.fault }
         ensures filter { result.filter ≡ Some place }
         ensures message { result.message ≡ self.entry.message }
     {
-        Refusing {
+        RefusalCause {
             fault: self.fault,
             filter: Some(place),
             message: self.message,
@@ -34,11 +34,11 @@ impl<'a> Refusing<'a> {
     }
 }
 
-impl<'a> From<Refusal> for Refusing<'a> {
+impl<'a> From<Refusal> for RefusalCause<'a> {
     ghost from_gives = { λ refusal e. IsWhole refusal e };
 
-    fn from(refusal: Refusal) -> Refusing<'a> {
-        Refusing {
+    fn from(refusal: Refusal) -> RefusalCause<'a> {
+        RefusalCause {
             fault: Fault::from(refusal),
             filter: None,
             message: &[],
@@ -50,7 +50,7 @@ impl<'a> From<Refusal> for Refusing<'a> {
 #[derive(Clone, Copy, Debug)]
 pub(crate) enum NotAccepted<'a> {
     /// It is refused, for this reason.
-    Refused(Refusing<'a>),
+    Refused(RefusalCause<'a>),
     /// Memory ran out outside of an admission.
     NoMemory,
 }
@@ -59,7 +59,7 @@ impl<'a> From<Refusal> for NotAccepted<'a> {
     ghost from_gives = { λ refusal e. IsWholeRefused refusal e };
 
     fn from(refusal: Refusal) -> NotAccepted<'a> {
-        NotAccepted::Refused(Refusing::from(refusal))
+        NotAccepted::Refused(RefusalCause::from(refusal))
     }
 }
 

@@ -54,7 +54,7 @@ fn written(
     ensures { IfOk result (λ v. ResponseIsOf version.now nonce.now
         (map (λ b. any_of b.items) values.now) v.items) }
 {
-    let resources = anys(alloc, values)?;
+    let resources = any_messages(alloc, values)?;
     let response = DiscoveryResponse {
         version_info: version,
         resources,
@@ -108,15 +108,15 @@ fn extension_bytes(alloc: Global, resource: &Resource) -> Result<Vec<u8>, AllocE
 }
 
 /// The messages, as resources of a response.
-fn anys<'a>(alloc: Global, values: &'a [Vec<u8>]) -> Result<Vec<Any<'a>>, AllocError>
+fn any_messages<'a>(alloc: Global, values: &'a [Vec<u8>]) -> Result<Vec<Any<'a>>, AllocError>
     ensures { IfOk result (λ v. map any_view v.items ≡ map (λ b. any_of b.items) values.now) }
 {
-    let mut anys = Vec::new(alloc);
+    let mut any_messages = Vec::new(alloc);
     for value in values {
-        anys.push(Any {
+        any_messages.push(Any {
             type_url: EXTENSION_TYPE,
             value: value.as_slice(),
         })?;
     }
-    Ok(anys)
+    Ok(any_messages)
 }

@@ -12,7 +12,7 @@ ghost use Rattle.ads.specs.Views.{snapshot_view, snapshots_view, served_view};
 ghost use Rattle.ads.specs.private.Serving.{IsKind, AddsReplies, IsServed, IsTaken, MessageIsServed, sent_since};
 
 use crate::ended::Ended;
-use crate::exchange::{Exchange, Sent, Word};
+use crate::exchange::{Exchange, RequestMeaning, Sent};
 use crate::judging::EXTENSION_TYPE;
 use crate::refused::memory_apart;
 use crate::response::{MOST_BYTES, decimal_text, response_bytes};
@@ -130,28 +130,31 @@ fn exchange_of(
 ) -> Result<Exchange, AllocError>
     ensures version { IfOk result (λ x. string_bytes x.version ≡ (request_view request.now).version_info) }
     ensures nonce { IfOk result (λ x. string_bytes x.nonce ≡ (request_view request.now).response_nonce) }
-    ensures says { IfOk result (λ x. Says (request_view request.now) x.word) }
+    ensures says { IfOk result (λ x. Says (request_view request.now) x.meaning) }
     ensures sent { IfOk result (λ x. x.sent ≡ sent) }
 {
     Ok(Exchange {
         version: String::from_str(alloc, request.version_info)?,
         nonce: String::from_str(alloc, request.response_nonce)?,
-        word: word_of(alloc, request)?,
+        meaning: meaning_of_request(alloc, request)?,
         sent,
     })
 }
 
 /// What a request says.
-fn word_of(alloc: Global, request: &DiscoveryRequest<'_>) -> Result<Word, AllocError>
+fn meaning_of_request(
+    alloc: Global,
+    request: &DiscoveryRequest<'_>,
+) -> Result<RequestMeaning, AllocError>
     ensures { IfOk result (Says (request_view request.now)) }
 {
     let Some(status) = &request.error_detail else {
         if request.response_nonce.is_empty() {
-            return Ok(Word::Asks);
+            return Ok(RequestMeaning::Asks);
         }
-        return Ok(Word::Accepts);
+        return Ok(RequestMeaning::Accepts);
     };
-    Ok(Word::Refuses(String::from_str(alloc, status.message)?))
+    Ok(RequestMeaning::Refuses(String::from_str(alloc, status.message)?))
 }
 
 /// Serves a request. Returns whether it ends the stream.

@@ -10,7 +10,7 @@ use Rattle.head_map.specs.declared.fact.MapFault.{MapFault}
 use Rattle.head_map.specs.declared.fact.MapFault.TheVariants.{Doubled, Missing, Unreadable}
 use Rattle.head_map.specs.declared.fact.NamedFact.{NamedFact}
 use Rattle.head_map.specs.Claims.{Claim, Reads, direct_remote_ip, parts_of, remote_ip, without_back_blanks, without_front_blanks}
-use Rattle.head_map.specs.Mapped.{HasMapFault, IsMapped, MappingValue, PartsValue, Says, SaysFault, absent, doubled, is_there, mapped, missing, no_mapping, other_lines, silent, unreadable}
+use Rattle.head_map.specs.Mapped.{HasMapFault, IsMapped, MappingValue, PartsValue, Says, SaysFault, absent, doubled, is_present, mapped, missing, no_mapping, other_lines, silent, unreadable}
 use Rattle.head_map.proofs.Forwarding.{one_part}
 
 -- a value says one thing
@@ -126,9 +126,9 @@ said_or_silent lines (n ∷ named) silence sound =
 
 pub one_or_other : (m : MappingValue) (old : PartsValue) → ((new : PartsValue) → ¬ (IsMapped m old new))
     → ((fault : MapFault) → ¬ (HasMapFault m old.lines fault)) → ⊥
-one_or_other m old none sound = by_test (list_all (is_there old.lines) m.required) refl
+one_or_other m old none sound = by_test (list_all (is_present old.lines) m.required) refl
   where
-    by_test : (t : Bool) → list_all (is_there old.lines) m.required ≡ t → ⊥
+    by_test : (t : Bool) → list_all (is_present old.lines) m.required ≡ t → ⊥
     by_test false is = sound Missing (absent is refl)
     by_test true is =
         said_or_silent old.lines m.named

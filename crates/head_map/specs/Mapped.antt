@@ -101,8 +101,8 @@ lines_with_host (Some host) lines =
     filter (λ l. not (bytes_eq l.0 (codes "host"))) lines ++ (codes "host", host) ∷ []
 
 -- one of the lines has this name
-abbrev pub is_there : List Entry → List ℕ → Bool
-is_there lines name = list_any (λ l. bytes_eq l.0 name) lines
+abbrev pub is_present : List Entry → List ℕ → Bool
+is_present lines name = list_any (λ l. bytes_eq l.0 name) lines
 
 -- the field says this: exactly one line has its name, and the line's value says it
 abbrev pub Says : List Entry → NamedFact → Claim → Type 0
@@ -122,7 +122,7 @@ mapped m said old = let client = put_all said (client_of old) in record {
 pub record IsMapped (m : MappingValue) (old new : PartsValue) : Type 0 where
   pub claims : List Claim
   pub say : AllZip (Says old.lines) m.named claims
-  pub required : list_all (is_there old.lines) m.required ≡ true
+  pub required : list_all (is_present old.lines) m.required ≡ true
   pub value : new ≡ mapped m claims old
 
 -- the field says nothing: it is missing, doubled or unreadable
@@ -137,6 +137,6 @@ pub data SaysFault (lines : List Entry) (named : NamedFact) (fault : MapFault) :
 
 -- the lines have this fault: a required field is missing, or a named field says nothing
 pub data HasMapFault (m : MappingValue) (lines : List Entry) (fault : MapFault) : Type 0 where
-  absent : list_all (is_there lines) m.required ≡ false → fault ≡ Missing
+  absent : list_all (is_present lines) m.required ≡ false → fault ≡ Missing
       → HasMapFault m lines fault
   silent : Any (λ named. SaysFault lines named fault) m.named → HasMapFault m lines fault

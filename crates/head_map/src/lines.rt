@@ -4,7 +4,7 @@ ghost use Rattle.std.specs.List.{list_all};
 ghost use Rattle.std.specs.Str.{bytes_eq};
 ghost use Rattle.std.specs.String.{string_bytes};
 ghost use Rattle.attributes.specs.Headers.{lines_view, values_of};
-ghost use Rattle.head_map.specs.Mapped.{is_named, is_there, lines_with_host, other_lines};
+ghost use Rattle.head_map.specs.Mapped.{is_named, is_present, lines_with_host, other_lines};
 ghost use Rattle.head_map.specs.private.Lines.{LacksOneValue};
 
 use crate::fact::{MapFault, NamedFact};
@@ -34,11 +34,11 @@ pub(crate) fn value_of<'a>(lines: &'a [Line], name: &str) -> Result<&'a str, Map
 }
 
 /// Whether each of these names has a line.
-pub(crate) fn are_there(lines: &[Line], names: &[String]) -> bool
-    ensures { result ≡ list_all (is_there (lines_view lines.now)) (map string_bytes names.now) }
+pub(crate) fn are_present(lines: &[Line], names: &[String]) -> bool
+    ensures { result ≡ list_all (is_present (lines_view lines.now)) (map string_bytes names.now) }
 {
     for name in names {
-        if !is_there(lines, name.as_str()) {
+        if !is_present(lines, name.as_str()) {
             return false;
         }
     }
@@ -46,8 +46,8 @@ pub(crate) fn are_there(lines: &[Line], names: &[String]) -> bool
 }
 
 // Whether one of the lines has this name.
-fn is_there(lines: &[Line], name: &str) -> bool
-    ensures { result ≡ is_there (lines_view lines.now) name.now }
+fn is_present(lines: &[Line], name: &str) -> bool
+    ensures { result ≡ is_present (lines_view lines.now) name.now }
 {
     for line in lines {
         if line.0.as_str() == name {

@@ -5,7 +5,7 @@ ghost use Rattle.head_map.specs.Mapped.{HasMapFault, IsMapped, mapping_view, par
 
 use crate::client::Client;
 use crate::fact::MapFault;
-use crate::lines::{are_there, lines_with_host, other_lines};
+use crate::lines::{are_present, lines_with_host, other_lines};
 use crate::mapping::Mapping;
 use crate::parts::Parts;
 use std::alloc::{AllocError, Global};
@@ -27,7 +27,7 @@ pub fn mapped_of(
         lines,
         conn,
     } = parts;
-    if !are_there(&lines, &mapping.required) {
+    if !are_present(&lines, &mapping.required) {
         return Ok(Err(MapFault::Missing));
     }
     let mut client = Client {

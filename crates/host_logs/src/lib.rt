@@ -11,4 +11,4 @@ pub use accesses::{Accesses, DecisionContext, Unjudged, verdict_of};
 pub use clocks::{micros, unix_millis};
 pub use connections::{Connection, Connections};
 pub use logs::Logs;
-pub use responses::{Refusing, accepted_update, places_of};
+pub use responses::{RefusalCause, accepted_update, places_of};

@@ -19,7 +19,7 @@ pub fn places_of(alloc: Global, given: &[bool]) -> Result<Vec<usize>, AllocError
 
 /// Why a response was refused.
 #[derive(Drop)]
-pub struct Refusing<'a> {
+pub struct RefusalCause<'a> {
     /// The refusal that the client answered.
     pub reason: Refusal,
     /// What it means, in words.
@@ -28,17 +28,17 @@ pub struct Refusing<'a> {
     pub fault: ResponseFault<'a>,
 }
 
-impl<'a> Refusing<'a> {
+impl<'a> RefusalCause<'a> {
     /// Why a client with this configuration refused a response.
     pub fn of(
         alloc: Global,
         refused: &Refused,
         config: &'a Config,
-    ) -> Result<Refusing<'a>, AllocError> {
+    ) -> Result<RefusalCause<'a>, AllocError> {
         let reason = refused.fault.refusal;
         let fault = fault_of(alloc, refused, config);
         let cause = fault.part.meaning(reason).to_string(alloc)?;
-        Ok(Refusing {
+        Ok(RefusalCause {
             reason,
             cause,
             fault,

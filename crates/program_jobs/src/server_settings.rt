@@ -67,14 +67,14 @@ pub fn read_server_settings(
         conn,
         settings,
     };
-    match misfit_of(&server_settings).or(clash_of(&server_settings.settings, path)) {
+    match conflict_of(&server_settings).or(clash_of(&server_settings.settings, path)) {
         Some(cause) => Err(ServerSettingsFault::Bad(String::from_str(alloc, cause)?)),
         None => Ok(server_settings),
     }
 }
 
 // Why settings that are allowed by themselves do not go together, if they do not.
-fn misfit_of(server_settings: &ServerSettings) -> Option<&'static str> {
+fn conflict_of(server_settings: &ServerSettings) -> Option<&'static str> {
     let limits = server_settings.config.limits();
     if !limits.fits_conn(&server_settings.conn) {
         return Some("facts: a text is longer than the limit text of proxy");

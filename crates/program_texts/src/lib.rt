@@ -21,7 +21,7 @@ pub use facts::{
 };
 pub use input::read_some;
 pub use line_fault::LineFault;
-pub use members::{Misfit, is_among, items_at, number_at, number_or, require_names, str_at};
+pub use members::{InvalidValue, is_among, items_at, number_at, number_or, require_names, str_at};
 pub use output::write_whole;
 pub use replay_fault::{ReplayFault, input_fault};
 pub use short::within_limits;

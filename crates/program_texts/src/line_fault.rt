@@ -1,6 +1,6 @@
 //! Why a line of an input cannot be read.
 
-use crate::members::Misfit;
+use crate::members::InvalidValue;
 use std::alloc::AllocError;
 use std::error::Error;
 use std::fmt;
@@ -41,13 +41,13 @@ impl From<AllocError> for LineFault {
     }
 }
 
-impl From<Misfit> for LineFault {
+impl From<InvalidValue> for LineFault {
     ghost use Rattle.std.specs.Prelude.{◌≡◌};
     ghost use Rattle.program_texts.specs.declared.line_fault.LineFault.TheVariants.{BadLine};
 
     ghost from_gives = { λ _ e. e ≡ BadLine };
 
-    fn from(_misfit: Misfit) -> LineFault {
+    fn from(_misfit: InvalidValue) -> LineFault {
         LineFault::BadLine
     }
 }

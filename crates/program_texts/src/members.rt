@@ -10,15 +10,15 @@ use serde_json::{Map, Value};
 
 /// The value is not of the required kind, or has a member with a name that is not allowed.
 #[derive(Clone, Copy, Debug)]
-pub struct Misfit;
+pub struct InvalidValue;
 
 /// Refuses any value but an object whose members have only these names.
-pub fn require_names(value: &Value, names: &[&str]) -> Result<(), Misfit>
+pub fn require_names(value: &Value, names: &[&str]) -> Result<(), InvalidValue>
     ensures found { OnOk result (HasOnly (map (λ n. n.now) names.now) (view value.now)) }
     ensures fault { OnErr result (¬ HasOnly (map (λ n. n.now) names.now) (view value.now)) }
 {
     if !has_only(value, names) {
-        return Err(Misfit);
+        return Err(InvalidValue);
     }
     Ok(())
 }
@@ -51,35 +51,35 @@ pub fn is_among(name: &str, names: &[&str]) -> bool
 }
 
 /// The text of the member with this name, which is required.
-pub fn str_at<'a>(object: &'a Value, name: &str) -> Result<&'a str, Misfit>
+pub fn str_at<'a>(object: &'a Value, name: &str) -> Result<&'a str, InvalidValue>
     ensures found { IfOk result (λ text. get name.now (view object.now) ≡ Some (string text.now)) }
     ensures fault { OnErr result ((text : List ℕ) → get name.now (view object.now) ≢ Some (string text)) }
 {
     let Some(value) = object.get(name) else {
-        return Err(Misfit);
+        return Err(InvalidValue);
     };
     match value.as_str() {
         Some(text) => Ok(text),
-        None => Err(Misfit),
+        None => Err(InvalidValue),
     }
 }
 
 /// The values of the array with this name, which is required.
-pub fn items_at<'a>(object: &'a Value, name: &str) -> Result<&'a [Value], Misfit>
+pub fn items_at<'a>(object: &'a Value, name: &str) -> Result<&'a [Value], InvalidValue>
     ensures found { IfOk result (λ items. get name.now (view object.now) ≡ Some (array (items_view items.now))) }
     ensures fault { OnErr result ((items : Items) → get name.now (view object.now) ≢ Some (array items)) }
 {
     let Some(value) = object.get(name) else {
-        return Err(Misfit);
+        return Err(InvalidValue);
     };
     match value.as_array() {
         Some(items) => Ok(items),
-        None => Err(Misfit),
+        None => Err(InvalidValue),
     }
 }
 
 /// The number of the member with this name; `absent` if there is none.
-pub fn number_or(object: &Value, name: &str, absent: u64) -> Result<u64, Misfit>
+pub fn number_or(object: &Value, name: &str, absent: u64) -> Result<u64, InvalidValue>
     ensures found { IfOk result (IsNumberOr absent (get name.now (view object.now))) }
     ensures fault { OnErr result ((n : ℕ) → ¬ IsNumberOr absent (get name.now (view object.now)) n) }
 {
@@ -88,20 +88,20 @@ pub fn number_or(object: &Value, name: &str, absent: u64) -> Result<u64, Misfit>
     };
     match value.as_u64() {
         Some(number) => Ok(number),
-        None => Err(Misfit),
+        None => Err(InvalidValue),
     }
 }
 
 /// The unsigned integer of the member with this name, which is required.
-pub fn number_at(object: &Value, name: &str) -> Result<u64, Misfit>
+pub fn number_at(object: &Value, name: &str) -> Result<u64, InvalidValue>
     ensures found { IfOk result (λ n. get name.now (view object.now) ≡ Some (number (unsigned n))) }
     ensures fault { OnErr result ((n : ℕ) → get name.now (view object.now) ≢ Some (number (unsigned n))) }
 {
     let Some(value) = object.get(name) else {
-        return Err(Misfit);
+        return Err(InvalidValue);
     };
     match value.as_u64() {
         Some(number) => Ok(number),
-        None => Err(Misfit),
+        None => Err(InvalidValue),
     }
 }

@@ -46,18 +46,18 @@ moment_sent (http_closed k) c past m (is, none, asks) = rw none tt
 -- ---- one response
 
 -- the first extension of a name is that of a resource
-named_is : (name : List ℕ) (anys : List AnyMessage) (xs : List ExtensionMessage) (x : ExtensionMessage)
-    (more : List ExtensionMessage) → AllZip IsResource anys xs → named name xs ≡ x ∷ more
-    → SomeOf (λ any. IsResource any x) anys × (x.name ≡ name)
+named_is : (name : List ℕ) (any_messages : List AnyMessage) (xs : List ExtensionMessage) (x : ExtensionMessage)
+    (more : List ExtensionMessage) → AllZip IsResource any_messages xs → named name xs ≡ x ∷ more
+    → SomeOf (λ any. IsResource any x) any_messages × (x.name ≡ name)
 named_is name [] [] x more all is = absurd cc
 named_is name [] (y ∷ xs) x more all is = absurd all
-named_is name (any ∷ anys) [] x more all is = absurd cc
-named_is name (any ∷ anys) (y ∷ xs) x more (one, all) is =
-    by (bytes_eq y.name name) refl is (λ later. named_is name anys xs x more all later)
+named_is name (any ∷ any_messages) [] x more all is = absurd cc
+named_is name (any ∷ any_messages) (y ∷ xs) x more (one, all) is =
+    by (bytes_eq y.name name) refl is (λ later. named_is name any_messages xs x more all later)
   where
     by : (b : Bool) → bytes_eq y.name name ≡ b → (if b then y ∷ named name xs else named name xs) ≡ x ∷ more
-        → (named name xs ≡ x ∷ more → SomeOf (λ any. IsResource any x) anys × (x.name ≡ name))
-        → SomeOf (λ any. IsResource any x) (any ∷ anys) × (x.name ≡ name)
+        → (named name xs ≡ x ∷ more → SomeOf (λ any. IsResource any x) any_messages × (x.name ≡ name))
+        → SomeOf (λ any. IsResource any x) (any ∷ any_messages) × (x.name ≡ name)
     by true same found behind =
         let here : y ≡ x = cc in (
           inl (subst (λ z. IsResource any z) here one),
@@ -66,16 +66,16 @@ named_is name (any ∷ anys) (y ∷ xs) x more (one, all) is =
     by false same found behind = let later = behind found in (inr later.0, later.1)
 
 -- a resource of a name has an extension of it
-some_named : (name : List ℕ) (anys : List AnyMessage) (xs : List ExtensionMessage) → AllZip IsResource anys xs
-    → SomeOf (IsNamed name) anys → 1 ≤ length (named name xs)
+some_named : (name : List ℕ) (any_messages : List AnyMessage) (xs : List ExtensionMessage) → AllZip IsResource any_messages xs
+    → SomeOf (IsNamed name) any_messages → 1 ≤ length (named name xs)
 some_named name [] xs all some = absurd some
-some_named name (any ∷ anys) [] all some = absurd all
-some_named name (any ∷ anys) (x ∷ xs) (is, all) (inl (also, is', same)) =
+some_named name (any ∷ any_messages) [] all some = absurd all
+some_named name (any ∷ any_messages) (x ∷ xs) (is, all) (inl (also, is', same)) =
     let one : also ≡ x = extension_unique any.value also x is'.reads is.reads in
     let this : x.name ≡ name = subst (λ (y : ExtensionMessage). y.name ≡ name) one same in
     rw ((bytes_eq-Decides x.name name).1 this) (omega arith)
-some_named name (any ∷ anys) (x ∷ xs) (is, all) (inr some) =
-    by (bytes_eq x.name name) (some_named name anys xs all some)
+some_named name (any ∷ any_messages) (x ∷ xs) (is, all) (inr some) =
+    by (bytes_eq x.name name) (some_named name any_messages xs all some)
   where
     by : (b : Bool) → 1 ≤ length (named name xs) → 1 ≤ length (if b then x ∷ named name xs else named name xs)
     by true more = omega arith

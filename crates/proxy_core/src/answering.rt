@@ -18,7 +18,7 @@ use http_front::{Ask, Case, Front, Reply};
 use std::alloc::{AllocError, Global};
 
 /// The front of a new connection with these facts; none if they are outside the limits. Then no memory is taken.
-pub(crate) fn opened(
+pub(crate) fn open_front(
     alloc: Global,
     client: &Client,
     conn: &Conn,
@@ -39,7 +39,7 @@ pub(crate) fn opened(
 
 /// The answers to the asks that the bytes complete, and the front that has read them; none if the connection closes
 /// behind the answers. Also the asks with the answers.
-pub(crate) fn taken(
+pub(crate) fn take_bytes(
     alloc: Global,
     client: &Client,
     front: Front,

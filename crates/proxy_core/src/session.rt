@@ -8,7 +8,7 @@ ghost use Rattle.http_front.specs.Heads.{reading};
 ghost use Rattle.proxy_core.specs.Step.{OpensFront, AnswersBytes};
 
 use crate::answered_ask::AnsweredAsk;
-use crate::answering::{opened, taken};
+use crate::answering::{open_front, take_bytes};
 use crate::step::kept_by;
 use ads::Client;
 use attributes::Conn;
@@ -43,7 +43,7 @@ impl Session {
         ensures unfit { (FactsInLimits (conn_view conn.now) (client_view client.now).config.limits → ⊥)
             → IsOk result }
     {
-        let Some(front) = opened(alloc, client, conn)? else {
+        let Some(front) = open_front(alloc, client, conn)? else {
             return Ok(None);
         };
         Ok(Some(Session { front }))
@@ -68,7 +68,7 @@ impl Session {
         if kept_by(&mut front, bytes)? {
             return Ok((Vec::new(alloc), Some(Session { front }), Vec::new(alloc)));
         }
-        let (answers, front, answered_asks) = taken(alloc, client, front, bytes)?;
+        let (answers, front, answered_asks) = take_bytes(alloc, client, front, bytes)?;
         let Some(front) = front else {
             return Ok((answers, None, answered_asks));
         };

@@ -10,7 +10,7 @@ ghost use Rattle.proxy_core.specs.Proxies.{proxy_view};
 ghost use Rattle.proxy_core.specs.Step.{OpensAt, StepsBy, TakesAds, TakesHttp, TakesNoMemory, front_at, new_proxy, with_conn};
 ghost use Rattle.proxy_core.specs.private.Fronts.{IsOpenFor, KeepsAt};
 
-use crate::answering::{opened, taken};
+use crate::answering::{open_front, take_bytes};
 use crate::event::{Event, Output};
 use crate::proxy::Proxy;
 use ads::{Client, Config, Ended, Judgement};
@@ -164,7 +164,7 @@ impl Proxy {
         if k >= PLACES {
             return Ok(Output::none(self.alloc));
         }
-        let front = opened(self.alloc, &self.client, conn)?;
+        let front = open_front(self.alloc, &self.client, conn)?;
         let http_close = front.is_none();
         self.put(k, front);
         Ok(Output::on_http(self.alloc, Vec::new(self.alloc), http_close))
@@ -184,7 +184,7 @@ impl Proxy {
             return Ok(Output::none(self.alloc));
         };
         let front = front.copy()?;
-        let (http, front, _) = taken(self.alloc, &self.client, front, bytes)?;
+        let (http, front, _) = take_bytes(self.alloc, &self.client, front, bytes)?;
         let http_close = front.is_none();
         self.put(k, front);
         Ok(Output::on_http(self.alloc, http, http_close))

@@ -13,7 +13,7 @@ ghost use Rattle.proxy_replay.specs.declared.configuration.ConfigTextFault.TheVa
 
 use ads::{Config, ConfigFault, Filter};
 use attributes::{Limit, Limits};
-use program_texts::{Misfit, items_at, number_or, require_names, str_at};
+use program_texts::{InvalidValue, items_at, number_or, require_names, str_at};
 use serde_json::Value;
 use std::alloc::{AllocError, AllocFailed, Global};
 use std::error::Error;
@@ -78,13 +78,13 @@ impl<T: Drop> From<AllocFailed<T>> for ConfigTextFault {
     }
 }
 
-impl From<Misfit> for ConfigTextFault {
+impl From<InvalidValue> for ConfigTextFault {
     ghost use Rattle.std.specs.Prelude.{◌≡◌};
     ghost use Rattle.proxy_replay.specs.declared.configuration.ConfigTextFault.TheVariants.{Bad};
 
     ghost from_gives = { λ _ e. e ≡ Bad };
 
-    fn from(_misfit: Misfit) -> ConfigTextFault {
+    fn from(_misfit: InvalidValue) -> ConfigTextFault {
         ConfigTextFault::Bad
     }
 }
@@ -193,7 +193,7 @@ fn filter_of(alloc: Global, value: &Value) -> Result<Filter, ConfigTextFault>
 }
 
 /// The limits that a configuration declares; the greatest if it declares none.
-fn limits_at(value: &Value) -> Result<Limits, Misfit>
+fn limits_at(value: &Value) -> Result<Limits, InvalidValue>
     ensures found { IfOk result (AreDeclared (get (codes "limits") (view value.now))) }
     ensures fault { OnErr result ((l : LimitsValue) → ¬ AreDeclared (get (codes "limits") (view value.now)) l) }
 {
@@ -204,7 +204,7 @@ fn limits_at(value: &Value) -> Result<Limits, Misfit>
 }
 
 /// The limits that a JSON object declares.
-fn declared_limits(object: &Value) -> Result<Limits, Misfit>
+fn declared_limits(object: &Value) -> Result<Limits, InvalidValue>
     ensures found { IfOk result (DeclaresLimits (view object.now)) }
     ensures fault { OnErr result ((l : LimitsValue) → ¬ DeclaresLimits (view object.now) l) }
 {
@@ -219,7 +219,7 @@ fn declared_limits(object: &Value) -> Result<Limits, Misfit>
 }
 
 /// The limit of this name; the greatest of its kind if there is none.
-pub(crate) fn limit_at(object: &Value, name: &str, limit: Limit) -> Result<usize, Misfit>
+pub(crate) fn limit_at(object: &Value, name: &str, limit: Limit) -> Result<usize, InvalidValue>
     ensures found { IfOk result (IsNumberOr (limit_of limit largest) (get name.now (view object.now))) }
     ensures fault { OnErr result ((n : ℕ)
         → ¬ IsNumberOr (limit_of limit largest) (get name.now (view object.now)) n) }
@@ -236,12 +236,12 @@ fn sound_limits(
     method: usize,
     target: usize,
     text: usize,
-) -> Result<Limits, Misfit>
+) -> Result<Limits, InvalidValue>
     ensures found { IfOk result (λ l. (l ≡ declared fields name value method target text) × AreLimits l) }
     ensures fault { OnErr result (¬ AreLimits (declared fields name value method target text)) }
 {
     match Limits::new(fields, name, value, method, target, text) {
         Ok(limits) => Ok(limits),
-        Err(_) => Err(Misfit),
+        Err(_) => Err(InvalidValue),
     }
 }

@@ -13,7 +13,8 @@ ghost use Rattle.program_texts.specs.declared.line_fault.LineFault.TheVariants.{
 use attributes::Conn;
 use hex::FromHexError;
 use program_texts::{
-    FactsFault, LineFault, Misfit, cause_of_bad_value, conn_of, number_at, require_names, str_at,
+    FactsFault, InvalidValue, LineFault, cause_of_bad_value, conn_of, number_at, require_names,
+    str_at,
 };
 use proxy_core::{Event, Output};
 use serde_json::Value;
@@ -160,7 +161,7 @@ fn event_at(alloc: Global, value: &Value) -> Result<LineEvent, LineFault>
 }
 
 // Refuses a value that has members which an event of this kind does not have.
-fn require_members(value: &Value, kind: EventKind) -> Result<(), Misfit>
+fn require_members(value: &Value, kind: EventKind) -> Result<(), InvalidValue>
     ensures found { OnOk result (HasOnly (names_of kind) (view value.now)) }
     ensures fault { OnErr result (¬ HasOnly (names_of kind) (view value.now)) }
 {

@@ -2,7 +2,7 @@
 use crate::configuration::{CONFIG_NAMES, DEFAULT_BUDGET, FILTER_NAMES, LIMIT_NAMES, limit_at};
 use ads::Config;
 use attributes::{Limit, Limits};
-use program_texts::{Misfit, is_among, items_at, number_or, str_at};
+use program_texts::{InvalidValue, is_among, items_at, number_or, str_at};
 use serde_json::Value;
 use std::alloc::{AllocError, Global};
 
@@ -55,7 +55,7 @@ pub fn cause_of_bad_settings(alloc: Global, value: &Value) -> Result<String, All
         match str_at(value, name) {
             Ok(text) if text.len() <= 256 => {}
             Ok(_) => return format!(in alloc; "{name} has more than 256 bytes"),
-            Err(Misfit) => return format!(in alloc; "{name} is missing or not a text"),
+            Err(InvalidValue) => return format!(in alloc; "{name} is missing or not a text"),
         }
     }
     if let Some(cause) = cause_of_limits(alloc, value)? {
@@ -63,7 +63,7 @@ pub fn cause_of_bad_settings(alloc: Global, value: &Value) -> Result<String, All
     }
     match items_at(value, "filters") {
         Ok(items) => cause_of_filters(alloc, items),
-        Err(Misfit) => String::from_str(alloc, "filters is missing or not an array"),
+        Err(InvalidValue) => String::from_str(alloc, "filters is missing or not an array"),
     }
 }
 

@@ -81,7 +81,7 @@ impl FrontConnection {
             }
         }
         Ok(ConnectionResult {
-            rests: self.front.is_fresh(),
+            between_requests: self.front.is_fresh(),
             answers,
             closes: self.front.is_closed(),
         })

@@ -2,11 +2,11 @@
 
 use crate::observed::ObservedWorker;
 use ads::{Judgement, Refused, ResponseOutcome};
-use host_logs::{Refusing, accepted_update, places_of, unix_millis};
+use host_logs::{RefusalCause, accepted_update, places_of, unix_millis};
 use rbac_policy::Admitted;
 use rbac_serve::{Judged, judged};
 use serve_admin::{PoliciesStatus, RefusalStatus};
-use serve_log::{Fed, LogFiles, update_line};
+use serve_log::{LogFiles, UpdateBytes, update_line};
 use std::alloc::{AllocError, Global};
 use std::rt::Clock;
 
@@ -40,10 +40,10 @@ impl<R: Clock, F: LogFiles + Drop> ObservedWorker<'_, R, F> {
         };
         match outcome {
             ResponseOutcome::Accepted(given) => match places_of(self.alloc, given) {
-                Ok(places) => recorder.fed(bytes, &Fed::Accepted(&places)),
-                Err(AllocError) => recorder.fed(bytes, &Fed::Accepted(&[])),
+                Ok(places) => recorder.fed(bytes, &UpdateBytes::Accepted(&places)),
+                Err(AllocError) => recorder.fed(bytes, &UpdateBytes::Accepted(&[])),
             },
-            ResponseOutcome::Refused(_) => recorder.fed(bytes, &Fed::Refused),
+            ResponseOutcome::Refused(_) => recorder.fed(bytes, &UpdateBytes::Refused),
         }
     }
 
@@ -90,7 +90,7 @@ impl<R: Clock, F: LogFiles + Drop> ObservedWorker<'_, R, F> {
     ) -> Result<(), AllocError> {
         let alloc = self.alloc;
         let client = self.worker.client();
-        let refusing = Refusing::of(alloc, refused, client.config())?;
+        let refusing = RefusalCause::of(alloc, refused, client.config())?;
         let update = refusing.update(judgement, client.generation(), times.micros / 1_000);
         if let Ok(line) = update_line(alloc, times.ended, &update) {
             self.logs.updates.line(line.as_str());

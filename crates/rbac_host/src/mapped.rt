@@ -62,7 +62,7 @@ impl<'m, 'r, R: Clock, F: LogFiles + Drop> MappedWorker<'m, 'r, R, F> {
         match self.fronts.get_mut(k) {
             Some(front) => front.receive(&mut self.observed, rule, bytes),
             None => Ok(ConnectionResult {
-                rests: false,
+                between_requests: false,
                 answers: false,
                 closes: false,
             }),

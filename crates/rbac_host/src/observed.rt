@@ -135,7 +135,7 @@ impl<R: Clock, F: LogFiles + Drop> Service for ObservedWorker<'_, R, F> {
         };
         self.log_decisions(k, &answered.answered_asks, record.as_ref());
         Ok(ConnectionResult {
-            rests: self.worker.is_fresh(k),
+            between_requests: self.worker.is_fresh(k),
             answers: !answered.answered_asks.is_empty(),
             closes: answered.closes,
         })
@@ -217,7 +217,7 @@ impl<R: Clock, F: LogFiles + Drop> ObservedWorker<'_, R, F> {
             Some(judgement) => self.note_judgement(bytes, judgement, taken),
             None => {
                 if let Some(recorder) = &mut self.logs.recorder {
-                    recorder.fed(bytes, &serve_log::Fed::Partial);
+                    recorder.fed(bytes, &serve_log::UpdateBytes::Partial);
                 }
             }
         }

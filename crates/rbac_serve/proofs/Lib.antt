@@ -1,4 +1,4 @@
-pub mod StrangerLemmas
+pub mod OtherProtocolLemmas
 pub mod PlaceLemmas
 pub mod Turning
 pub mod Order

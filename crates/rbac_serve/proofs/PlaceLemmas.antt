@@ -23,7 +23,7 @@ all_put limits [] k g this all = tt
 all_put limits (h ∷ gs) zero g this (one, all) = (this, all)
 all_put limits (h ∷ gs) (suc k) g this (one, all) = (one, all_put limits gs k g this all)
 
--- a guest is put into a place
+-- a connection is put into a place
 pub fits_put : (limits : LimitsValue) (gs : List ConnectionState) (k : ℕ) (g : ConnectionState) → FitsFor limits g.session
     → ∥ AllByRecursion (FitsFor limits) (sessions_of gs) ∥₁
     → ∥ AllByRecursion (FitsFor limits) (sessions_of (set gs k g)) ∥₁
@@ -42,7 +42,7 @@ fits_or : (limits : LimitsValue) (o : Option FrontValue) → ∥ FitsFor limits 
 fits_or limits None fits = tt
 fits_or limits (Some f) fits = ∥∥₁_elim fits (Prim.hlevel props) (λ it. it)
 
--- a guest that is in a place
+-- a connection that is in a place
 pub fits_at : (limits : LimitsValue) (gs : List ConnectionState) (k : ℕ) (g : ConnectionState) → slice_get gs k ≡ Some g
     → ∥ AllByRecursion (FitsFor limits) (sessions_of gs) ∥₁ → FitsFor limits g.session
 fits_at limits gs k g is all =
@@ -85,7 +85,7 @@ waits_none [] k is = refl
 waits_none (h ∷ gs) zero is = absurd cc
 waits_none (h ∷ gs) (suc k) is = waits_none gs k is
 
--- ---- a guest is put into a place
+-- ---- a connection is put into a place
 
 -- the worker with this connection, and what waits for it, in a place
 abbrev pub put_in : WorkerValue → ℕ → Option FrontValue → List ℕ → WorkerValue
@@ -138,7 +138,7 @@ pub state_past : (client : Client) (requests : List ℕ) (gs : List ConnectionSt
     → state_of client gs requests ≡ put_in (state_of client gs requests) k None []
 state_past client requests gs k far = state_put client requests gs gs k free_connection (sym (set_past gs k free_connection far))
 
--- a guest is put into a place twice
+-- a connection is put into a place twice
 pub put_twice : (gs mid new : List ConnectionState) (k : ℕ) (g h : ConnectionState) → mid ≡ set gs k g → new ≡ set mid k h → new ≡ set gs k h
 put_twice gs mid new k g h first second = second ∙ ap (λ (xs : List ConnectionState). set xs k h) first ∙ set-set gs k g h
 

@@ -1,5 +1,5 @@
 pub mod Sending
-pub mod Strangers
+pub mod OtherProtocols
 pub mod Tables
 pub mod Turns
 pub mod Workers

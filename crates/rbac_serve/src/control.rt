@@ -1,8 +1,8 @@
 //! The update stream, whether it is up or not.
 
-use crate::line::{Line, Step};
 use crate::network::{Loss, Network, Service, Stream};
 use crate::settings::{Moment, Settings, longer};
+use crate::update_stream::{Step, UpdateStream};
 use std::alloc::{AllocError, Global};
 use std::io::ErrorKind;
 
@@ -11,7 +11,7 @@ use std::io::ErrorKind;
 enum Link<T: Drop> {
     /// It is down, and no other is tried before this time.
     Down(u64),
-    Up(Line<T>),
+    Up(UpdateStream<T>),
 }
 
 /// The update stream, and how long to wait before a further one is tried.
@@ -44,7 +44,7 @@ impl<T: Stream> Control<T> {
     ) {
         self.due = false;
         let step = match &mut self.link {
-            Link::Up(line) => line.turn(service, moment),
+            Link::Up(update_stream) => update_stream.turn(service, moment),
             Link::Down(until) if *until > moment.now => Step::Waits,
             Link::Down(_) => self.connect(network, service, moment.now),
         };
@@ -65,7 +65,7 @@ impl<T: Stream> Control<T> {
         };
         match service.up() {
             Ok(()) => {
-                self.link = Link::Up(Line::new(self.alloc, stream, now));
+                self.link = Link::Up(UpdateStream::new(self.alloc, stream, now));
                 Step::Again
             }
             Err(AllocError) => Step::Lost(Loss::Memory),
@@ -82,8 +82,8 @@ impl<T: Stream> Control<T> {
 
     // The stream is lost. A further one is tried later, and later still if no response came.
     fn lose<S: Service>(&mut self, loss: Loss, service: &mut S, moment: &Moment) {
-        if let Link::Up(line) = &self.link {
-            if line.responded {
+        if let Link::Up(update_stream) = &self.link {
+            if update_stream.responded {
                 self.wait = moment.settings.first_backoff;
             }
         }
@@ -96,7 +96,7 @@ impl<T: Stream> Control<T> {
     pub(crate) fn tick<S: Service>(&mut self, service: &mut S, moment: &Moment) {
         self.due = true;
         let ended = match &self.link {
-            Link::Up(line) => line.ends(moment),
+            Link::Up(update_stream) => update_stream.ends(moment),
             Link::Down(_) => None,
         };
         if let Some(loss) = ended {

@@ -6,8 +6,8 @@ mod calls;
 mod connection;
 mod control;
 pub mod laws;
-mod line;
 mod network;
+mod other_protocol;
 mod outbox;
 mod peer;
 mod places;
@@ -15,7 +15,7 @@ mod results;
 mod server;
 mod service;
 mod settings;
-mod stranger;
+mod update_stream;
 mod worker;
 
 pub use network::{

@@ -44,7 +44,7 @@ pub trait Network {
 #[derive(Clone, Copy, PartialEq, Eq, Debug)]
 pub struct ConnectionResult {
     /// Whether each byte so far belongs to a request that was answered.
-    pub rests: bool,
+    pub between_requests: bool,
     /// Whether a request was answered.
     pub answers: bool,
     /// Whether the connection is to be closed once the answers were sent.

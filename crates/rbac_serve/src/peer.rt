@@ -149,7 +149,7 @@ impl<T: Stream> Peer<T> {
         match service.bytes(k, bytes) {
             Ok(result) => {
                 self.begun = match self.begun {
-                    _ if result.rests => None,
+                    _ if result.between_requests => None,
                     Some(begun) if !result.answers => Some(begun),
                     _ => Some(now),
                 };

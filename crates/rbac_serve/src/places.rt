@@ -36,7 +36,7 @@ pub(crate) fn new_connections(
     Ok(connections)
 }
 
-/// Puts a guest in a place, and returns the one that was there.
+/// Puts a connection in a place, and returns the one that was there.
 pub(crate) fn put_connection(
     connections: &mut Vec<ConnectionState>,
     k: usize,
@@ -49,7 +49,7 @@ pub(crate) fn put_connection(
     mem::replace(&mut connections[k], connection)
 }
 
-/// The guest after its connection delivered bytes, whose answers wait after those that waited. Also what was asked and
+/// The connection after it delivered bytes, whose answers wait after those that waited. Also what was asked and
 /// answered.
 pub(crate) fn answer_connection(
     alloc: Global,

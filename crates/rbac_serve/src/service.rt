@@ -20,7 +20,7 @@ impl Service for Worker {
     fn bytes(&mut self, k: usize, bytes: &[u8]) -> Result<ConnectionResult, AllocError> {
         let answered = Worker::bytes(self, k, bytes)?;
         Ok(ConnectionResult {
-            rests: Worker::is_fresh(self, k),
+            between_requests: Worker::is_fresh(self, k),
             answers: !answered.answered_asks.is_empty(),
             closes: answered.closes,
         })

@@ -41,11 +41,11 @@ impl From<AllocError> for Fault {
     }
 }
 
-impl From<Lost> for Fault {
-    fn from(lost: Lost) -> Fault {
+impl From<LostLine> for Fault {
+    fn from(lost: LostLine) -> Fault {
         match lost {
-            Lost::Full => Fault::Full,
-            Lost::Memory => Fault::Memory,
+            LostLine::Full => Fault::Full,
+            LostLine::Memory => Fault::Memory,
         }
     }
 }

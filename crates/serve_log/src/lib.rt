@@ -30,5 +30,5 @@ pub use log_file::LogFile;
 pub use recorder::{RecordPosition, RecordSettings, Recorder};
 pub use time::time_text;
 pub use update::{Acknowledged, Refused, Update, update_line};
-pub use updates::Fed;
-pub use waiting::{Lost, MOST_WAITING, Waiting, Written};
+pub use updates::UpdateBytes;
+pub use waiting::{LostLine, MOST_WAITING, Waiting, Written};

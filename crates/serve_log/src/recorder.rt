@@ -8,7 +8,7 @@ use crate::files::LogFiles;
 use crate::names::FileNames;
 use crate::open_files::OpenFiles;
 use crate::record_file::RecordFile;
-use crate::updates::{Fed, Updates};
+use crate::updates::{UpdateBytes, Updates};
 use attributes::Conn;
 use std::alloc::Global;
 use std::io;
@@ -96,7 +96,7 @@ impl<F: LogFiles + Drop> Recorder<F> {
     }
 
     /// The update stream delivers bytes, of which at most the last one completes a response.
-    pub fn fed(&mut self, bytes: &[u8], fed: &Fed<'_>) {
+    pub fn fed(&mut self, bytes: &[u8], fed: &UpdateBytes<'_>) {
         for piece in bytes.chunks(MOST_PIECE) {
             self.open.add_to_all(&fed_line(self.alloc, piece));
         }

@@ -5,7 +5,7 @@ use std::mem;
 
 /// What bytes of the update stream did, in which at most one response ends: at their last byte.
 #[derive(Clone, Copy)]
-pub enum Fed<'a> {
+pub enum UpdateBytes<'a> {
     /// No response is complete, or the stream is broken.
     Partial,
     /// A response is complete and accepted. It gave the policies of the filters with these places in the configuration.
@@ -64,14 +64,14 @@ impl Updates {
     }
 
     /// The stream delivers bytes.
-    pub(crate) fn feed(&mut self, bytes: &[u8], fed: &Fed<'_>) {
+    pub(crate) fn feed(&mut self, bytes: &[u8], fed: &UpdateBytes<'_>) {
         if self.unfinished.extend_from_slice(bytes).is_err() {
             self.has_all = false;
         }
         match fed {
-            Fed::Partial => {}
-            Fed::Accepted(filters) => self.accept(filters),
-            Fed::Refused => {
+            UpdateBytes::Partial => {}
+            UpdateBytes::Accepted(filters) => self.accept(filters),
+            UpdateBytes::Refused => {
                 let _ = self.finish();
             }
         }

@@ -11,7 +11,7 @@ pub const MOST_WAITING: usize = 1_048_576;
 
 /// Why a line is not added.
 #[derive(Clone, Copy, PartialEq, Eq, Debug)]
-pub enum Lost {
+pub enum LostLine {
     /// More than `MOST_WAITING` bytes would wait.
     Full,
     /// Memory ran out.
@@ -93,18 +93,18 @@ impl Waiting {
 
     /// Adds a line with this text, if at most `MOST_WAITING` bytes wait then. If it is not added, all is as before the
     /// call.
-    pub fn line(&mut self, text: &str) -> Result<(), Lost>
+    pub fn line(&mut self, text: &str) -> Result<(), LostLine>
         ensures whole { OnOk result (self.new ≡ self.old ++ line_of text.now) }
         ensures most { OnOk result (length self.new ≤ 1048576) }
         ensures fault { OnErr result (self.new ≡ self.old) }
     {
         let rest = &self.bytes[self.written..];
         if text.len() >= MOST_WAITING || rest.len() >= MOST_WAITING - text.len() {
-            return Err(Lost::Full);
+            return Err(LostLine::Full);
         }
         match append(&mut self.bytes, &mut self.written, text.as_bytes()) {
             Ok(()) => Ok(()),
-            Err(AllocError) => Err(Lost::Memory),
+            Err(AllocError) => Err(LostLine::Memory),
         }
     }
 

@@ -1,6 +1,6 @@
 //! The lines of a log, as JSON objects. No contract describes them.
 
-use ads::{Client, Ended, Exchange, Judgement, Refused, ResponseOutcome, Sent, Word};
+use ads::{Client, Ended, Exchange, Judgement, Refused, RequestMeaning, ResponseOutcome, Sent};
 use fault_texts::{StreamEnd, fault_of};
 use serde_json::{Value, json};
 use std::alloc::{AllocError, Global};
@@ -116,10 +116,10 @@ fn text_or_null(alloc: Global, text: Option<&str>) -> Result<Value, AllocError> 
 
 /// The line for a client's request: it asks for resources, or answers a response.
 pub(crate) fn request_value(alloc: Global, exchange: &Exchange) -> Result<Value, AllocError> {
-    let word = match &exchange.word {
-        Word::Asks => "asked",
-        Word::Accepts => "acknowledged",
-        Word::Refuses(text) => {
+    let word = match &exchange.meaning {
+        RequestMeaning::Asks => "asked",
+        RequestMeaning::Accepts => "acknowledged",
+        RequestMeaning::Refuses(text) => {
             return json!(in alloc; {
                 "update": "refused",
                 "nonce": exchange.nonce.as_str(),

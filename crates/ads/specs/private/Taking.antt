@@ -15,7 +15,7 @@ use Rattle.ads.specs.declared.judging.Judged.{Judged}
 use Rattle.ads.specs.declared.judging.Judged.TheVariants as judged
 use Rattle.ads.specs.declared.refused.NotAccepted.{NotAccepted}
 use Rattle.ads.specs.declared.refused.NotAccepted.TheVariants as not_accepted
-use Rattle.ads.specs.declared.refused.Refusing.{Refusing}
+use Rattle.ads.specs.declared.refused.RefusalCause.{RefusalCause}
 
 -- the resource is an extension with a name
 abbrev pub Reads : AnyMessage → Type 0
@@ -30,11 +30,11 @@ abbrev pub IsDoubled : List ℕ → List ExtensionMessage → Type 0
 IsDoubled name xs = (x y : ExtensionMessage) × (more : List ExtensionMessage) × (named name xs ≡ x ∷ y ∷ more)
 
 -- the response or one of its resources is wrong, with this refusal
-abbrev pub IsWhole : Refusal → Refusing → Type 0
+abbrev pub IsWhole : Refusal → RefusalCause → Type 0
 IsWhole refusal r = (r.fault.refusal ≡ refusal) × (r.filter ≡ None) × (r.message.now ≡ [])
 
 -- the reason names the first filter that refuses the extensions, and its fault
-abbrev pub IsFirstUnfit : LimitsValue → List ExtensionMessage → List FilterValue → Refusing → Type 0
+abbrev pub IsFirstUnfit : LimitsValue → List ExtensionMessage → List FilterValue → RefusalCause → Type 0
 IsFirstUnfit limits xs fs r = (place : ℕ) × (r.filter ≡ Some place)
     × FirstAt (RefusesNothing limits xs) (λ f. Unfit limits xs f r.fault r.message.now) place fs
 
@@ -47,7 +47,7 @@ IsJudged c response (judged.Given given) =
 IsJudged c response (judged.Refused r) = IsRefusedAs c response r.fault r.filter r.message.now
 
 -- `P` holds of the refusal, or `M` holds if memory ran out outside of an admission
-abbrev pub MatchNotAccepted : (Refusing → Type 0) → Type 0 → NotAccepted → Type 0
+abbrev pub MatchNotAccepted : (RefusalCause → Type 0) → Type 0 → NotAccepted → Type 0
 MatchNotAccepted P M (not_accepted.Refused r) = P r
 MatchNotAccepted P M not_accepted.NoMemory = M
 

@@ -1,6 +1,6 @@
 use Rattle.std.proofs.Common.{◌↔◌, arith, sym, true≢false}
-use Rattle.rbac_serve.proofs.StrangerLemmas.{stream_zero_long}
-use Rattle.rbac_serve.proofs.stranger.is_http2.Goals as goal
+use Rattle.rbac_serve.proofs.OtherProtocolLemmas.{stream_zero_long}
+use Rattle.rbac_serve.proofs.other_protocol.is_http2.Goals as goal
 
 pub returns-then-first-lt-ENOUGH : goal.returns-then-first-lt-ENOUGH
 returns-then-first-lt-ENOUGH c = (

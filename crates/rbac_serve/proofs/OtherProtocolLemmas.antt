@@ -1,6 +1,6 @@
 -- How many bytes show HTTP/2.
 use Rattle.std.proofs.Common.{◌≡◌, ◌≤◌, ℕ, List, [], ◌∷◌, drop, length, arith}
-use Rattle.rbac_serve.specs.Strangers.{IsOfStreamZero}
+use Rattle.rbac_serve.specs.OtherProtocols.{IsOfStreamZero}
 
 pub stream_zero_long : (bytes : List ℕ) → IsOfStreamZero (drop 4 bytes) → 9 ≤ length bytes
 stream_zero_long [] is = absurd is

@@ -1,10 +1,10 @@
 //! An update stream that is up.
 
 use crate::network::{Judged, Loss, Service, Stream, UpdateResult};
+use crate::other_protocol::{ENOUGH, other_protocol_in};
 use crate::outbox::Sent;
 use crate::peer::CHUNK;
 use crate::settings::{Moment, has_passed, passed_since};
-use crate::stranger::{ENOUGH, stranger_in};
 use std::alloc::{AllocError, Global};
 use std::io::ErrorKind;
 
@@ -26,7 +26,7 @@ pub(crate) enum Step {
 
 /// An update stream that is up.
 #[derive(Drop)]
-pub(crate) struct Line<T: Drop> {
+pub(crate) struct UpdateStream<T: Drop> {
     stream: T,
     // when it came up
     since: u64,
@@ -43,9 +43,9 @@ pub(crate) struct Line<T: Drop> {
     at: usize,
 }
 
-impl<T: Stream> Line<T> {
-    pub(crate) fn new(alloc: Global, stream: T, now: u64) -> Line<T> {
-        Line {
+impl<T: Stream> UpdateStream<T> {
+    pub(crate) fn new(alloc: Global, stream: T, now: u64) -> UpdateStream<T> {
+        UpdateStream {
             stream,
             since: now,
             blocked: None,
@@ -119,7 +119,7 @@ impl<T: Stream> Line<T> {
             if self.first.extend_from_slice(&bytes[..more]).is_err() {
                 return Step::Lost(Loss::Memory);
             }
-            if let Some(loss) = stranger_in(&self.first) {
+            if let Some(loss) = other_protocol_in(&self.first) {
                 return Step::Lost(loss);
             }
         }

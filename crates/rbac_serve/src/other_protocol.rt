@@ -1,6 +1,6 @@
 //! Other protocols at the other end of an update stream.
 ghost use Rattle.std.specs.Prelude.{◌↔◌, IsTrue};
-ghost use Rattle.rbac_serve.specs.Strangers.{IsHttp2, IsOfStreamZero, IsSettings, IsTls, Speaks};
+ghost use Rattle.rbac_serve.specs.OtherProtocols.{IsHttp2, IsOfStreamZero, IsSettings, IsTls, Speaks};
 
 use crate::network::Loss;
 
@@ -9,7 +9,7 @@ pub(crate) const ENOUGH: usize = 9;
 
 /// The loss of a stream whose first bytes are of another protocol, if they are. That is the SETTINGS frame with which
 /// each HTTP/2 connection begins, or a record of TLS. No response begins with such bytes.
-pub(crate) fn stranger_in(first: &[u8]) -> Option<Loss>
+pub(crate) fn other_protocol_in(first: &[u8]) -> Option<Loss>
     ensures { Speaks first.now result }
 {
     if is_http2(first) {
