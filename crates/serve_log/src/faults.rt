@@ -1,7 +1,7 @@
 //! The faults of a log, and what standard error says about them.
 ghost use Rattle.std.specs.Prelude.{◌≡◌, ◌+◌, ◌-◌, ◌^◌, IsSome, min};
 
-use crate::waiting::Lost;
+use crate::waiting::LostLine;
 use std::alloc::{AllocError, Global};
 use std::{fmt, io};
 
