@@ -5,8 +5,8 @@ ghost use Rattle.c_inputs.specs.Bounds.{limits_given};
 
 use attributes::Limits;
 
-/// The six limits of requests: the number of field lines with the three pseudo-headers, and the bytes of a name, a
-/// value, a method, a target and any other text.
+/// The six limits of requests. One is the number of field lines, with the three pseudo-headers. The others are the bytes
+/// of a name, a value, a method, a target and any other text.
 #[repr(C)]
 #[derive(Clone, Copy)]
 pub struct Bounds {

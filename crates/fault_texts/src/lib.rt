@@ -1,5 +1,5 @@
-//! What people read of a refused policy file, of a refused response and of a head with a fault: the meaning, and the part that has
-//! the fault.
+//! The texts on a refused policy file, a refused response and a head with a fault. They say what the fault means, and
+//! which part has it.
 #![tactic(auto)]
 
 mod meanings;

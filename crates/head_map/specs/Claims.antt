@@ -66,12 +66,12 @@ abbrev pub IsFromRight : ℕ → List (List ℕ) → List ℕ → Type 0
 IsFromRight place parts part =
     (1 ≤ place) × (place ≤ length parts) × (slice_get parts (length parts - place) ≡ Some part)
 
--- an IPv6 address that stands for an IPv4 address: 80 zeros and 16 ones begin it (RFC 4291, section 2.5.5.2)
+-- an IPv6 address that means an IPv4 address: 80 zeros and 16 ones begin it (RFC 4291, section 2.5.5.2)
 abbrev pub IsMappedIp : Ip → Type 0
 IsMappedIp (ips.V4 n) = ⊥
 IsMappedIp (ips.V6 n) = n / 2 ^ 32 ≡ 65535
 
--- the address that a text spells. None that stands for an IPv4 address, which rules on IPv4 would not match
+-- the address that a text spells. None that means an IPv4 address, which rules on IPv4 would not match
 abbrev pub IsClientIp : List ℕ → Ip → Type 0
 IsClientIp text ip = IsIpText text ip × ¬ (IsMappedIp ip)
 

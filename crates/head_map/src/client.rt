@@ -1,4 +1,4 @@
-//! What is said of a client.
+//! The request and the facts of a client, put together from the claims of fields.
 ghost use Rattle.std.specs.Prelude.{◌≡◌, ◌∷◌, [], List, Any, IfOk, MatchResult, OnOk, option_map};
 ghost use Rattle.std.specs.String.{string_bytes};
 ghost use Rattle.attributes.specs.Conn.{text_view};

@@ -1,4 +1,4 @@
-//! Reads what a field says.
+//! Reads the claim that a field of a front proxy makes of its client.
 ghost use Rattle.std.specs.Prelude.{◌≡◌, ◌↔◌, IsTrue, MatchOption, Some, ℕ, List, length, option_map, slice_get, slice_index};
 ghost use Rattle.std.specs.Option.{option_copied};
 ghost use Rattle.attributes.specs.declared.address.Ip.{Ip};
@@ -137,7 +137,7 @@ fn forwarded(place: usize, value: &str) -> Option<Ip>
     client_ip(part_from_right(place, value)?.trim_ascii())
 }
 
-// The address that the text spells, if it does not stand for an IPv4 address.
+// The address that the text spells, if it does not mean an IPv4 address.
 fn client_ip(text: &str) -> Option<Ip>
     ensures { (ip : Ip) → (result ≡ Some ip) ↔ IsClientIp text.now ip }
 {
@@ -148,7 +148,7 @@ fn client_ip(text: &str) -> Option<Ip>
     Some(ip)
 }
 
-// Whether the address stands for an IPv4 address.
+// Whether the address means an IPv4 address.
 fn is_mapped(ip: Ip) -> bool
     ensures { IsTrue result ↔ IsMappedIp ip }
 {

@@ -1,4 +1,4 @@
-//! The time.
+//! The system's clocks: milliseconds since 1970, and microseconds for durations.
 
 use std::rt::Clock;
 

@@ -113,13 +113,13 @@ module _ (holds : Text → Text → Type 0) (lacks : (Text × IoError) → Type 
           → IsConnOf facts_path facts → Admissible policy largest budget → IsInputFault fault
           → StopsBy fault
 
-  -- what a check comes to: a report without an explanation, or the fault that stops it
+  -- the result of a check: a report without an explanation, or the fault that stops it
   abbrev pub ChecksTo : CheckWords → Result Report JobFault → Type 0
   ChecksTo words (Ok report) = (report.json ≡ words.json) × (¬ IsGiven report.explanation)
       × ((report.outcome ≡ outcomes.Memory) ⊎ IsCheckedAs (string_bytes words.policy) words.budget report.outcome)
   ChecksTo words (Err fault) = IsUnread (string_bytes words.policy) fault
 
-  -- what a judgement of this input comes to: a report, or the fault that stops it. The report has an explanation exactly
+  -- the result of a judgement of this input: a report, or the fault that stops it. The report has an explanation exactly
   -- if the words ask for one and there is a verdict to explain
   abbrev pub JudgesTo : Option Text → JudgeWords → Result Report JobFault → Type 0
   JudgesTo input words (Ok report) = (report.json ≡ words.json)
@@ -230,7 +230,7 @@ module _ (out out_new errors errors_new : Option Text) (status : ℕ) where
   Leaves json (Ok report) = PrintsReport report
   Leaves json (Err fault) = LeavesAs json fault
 
-  -- a job that comes to such a result has one, which is printed; or memory ran out
+  -- a job with such a result has one, which is printed; or memory ran out
   pub data EndsReport (json : Bool) (Comes : Result Report JobFault → Type 0) : Type 0 where
     ended : (found : Result Report JobFault) → Comes found → Leaves json found → EndsReport json Comes
     memory : LeavesFault faults.Memory → EndsReport json Comes

@@ -40,8 +40,8 @@ impl From<AllocError> for ServerSettingsFault {
     }
 }
 
-/// The settings of a JSON text (RFC 8259): an object with `proxy`, a configuration as in `read_config`, `facts`, as in
-/// `read_facts`, which may be absent, and the members of `read_serve_config`. `path` is that of their file.
+/// The settings of a JSON text (RFC 8259), which is an object. It has `proxy`, a configuration as in `read_config`, and
+/// the members of `read_serve_config`. It may have `facts`, as in `read_facts`. `path` is that of their file.
 pub fn read_server_settings(
     alloc: Global,
     path: &str,

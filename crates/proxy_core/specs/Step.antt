@@ -104,8 +104,8 @@ AnswersAsks accepted (t ∷ answered_asks) bytes = (more : List ℕ)
     × IsReplyTo DecidesAsWritten AsksAsWritten accepted t.ask (reply_view t.reply)
     × (bytes ≡ answer_of (reply_view t.reply) ++ more) × AnswersAsks accepted answered_asks more
 
--- a front reads bytes: the asks that they complete with their answers, these as bytes, and the front after them; none if
--- the connection closes behind the answers
+-- a front reads bytes: the asks that they complete with their answers, these as bytes, and the front after
+-- them. There is none if the connection closes after the answers
 abbrev pub AnswersBytes : Accepted → FrontValue → List ℕ → List AnsweredAsk → List ℕ → Option FrontValue → Type 0
 AnswersBytes accepted front bytes answered_asks http after = (last : FrontValue) × CompletesAsks front bytes (map (λ t. t.ask) answered_asks) last
     × AnswersAsks accepted answered_asks http × (after ≡ (if is_closed last.kept then None else Some last))

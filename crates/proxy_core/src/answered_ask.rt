@@ -1,4 +1,4 @@
-//! What was asked, and what was answered.
+//! An ask of a connection, with its answer.
 
 use http_front::{Ask, Reply};
 

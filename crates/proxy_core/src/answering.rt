@@ -38,7 +38,7 @@ pub(crate) fn open_front(
 }
 
 /// The answers to the asks that the bytes complete, and the front that has read them; none if the connection closes
-/// behind the answers. Also the asks with the answers.
+/// after the answers. Also the asks with the answers.
 pub(crate) fn take_bytes(
     alloc: Global,
     client: &Client,

@@ -1,4 +1,4 @@
-//! The settings of the loop.
+//! The settings of the server's loop, taken from those of the server.
 
 use rbac_serve::Settings;
 use serve_config::ServeConfig;

@@ -1,4 +1,4 @@
-//! The words for what ends.
+//! Why an update stream was lost or a connection ended: in words, and as a counter.
 
 use fault_texts::StreamEnd;
 use rbac_serve::{End, Loss};

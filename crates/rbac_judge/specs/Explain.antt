@@ -38,8 +38,8 @@ abbrev pub own_trial_view : OwnTrial → TrialValue
 own_trial_view trial =
     record { number = trial.number; name = string_bytes trial.name; reason = trial.reason }
 
--- a trial as it is reported, with the texts of its causes: the leaves of its rules that decide, and the part of its condition
--- that an error is from
+-- a trial as it is reported, with the texts of its causes. They are the leaves of its rules that decide, and the part of
+-- its condition that an error is from
 pub record ReportedTrial : Type 0 where
   pub trial : TrialValue
   pub causes : List (List ℕ)

@@ -55,7 +55,7 @@ fn line_of(line: Vec<u8>, count: usize) -> Option<HeadLine>
     Some(HeadLine::Whole(line))
 }
 
-/// Takes bytes of a line from the input: those that are there, up to the line feed. Appends them to the line, if they
+/// Takes bytes of a line from the input: those that are present, up to the line feed. Appends them to the line, if they
 /// are at most `room`. Returns how many they are, and whether the line or the input is at its end.
 fn take_part<R: BufRead>(
     input: &mut R,

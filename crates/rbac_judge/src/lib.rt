@@ -1,4 +1,4 @@
-//! Judges a request head, or a batch of heads, by the bytes of a policy file and the facts of a connection, and reports the
+//! Judges a request head, or a batch of heads, by the bytes of a policy file and the facts of a connection. Reports the
 //! outcome in words or as JSON.
 #![tactic(auto)]
 

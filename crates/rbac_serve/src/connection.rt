@@ -1,4 +1,4 @@
-//! The place of a connection.
+//! A connection of a worker: its session, and the answers that wait.
 
 use crate::outbox::Outbox;
 use proxy_core::Session;

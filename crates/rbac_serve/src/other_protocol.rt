@@ -1,4 +1,4 @@
-//! Other protocols at the other end of an update stream.
+//! Recognises TLS and HTTP/2 in the first bytes of an update stream.
 ghost use Rattle.std.specs.Prelude.{◌↔◌, IsTrue};
 ghost use Rattle.rbac_serve.specs.OtherProtocols.{IsHttp2, IsOfStreamZero, IsSettings, IsTls, Speaks};
 

@@ -1,4 +1,4 @@
-//! A worker as what a server serves.
+//! A worker as the service of the loop: its calls are those of `Service`.
 
 use crate::network::{ConnectionResult, End, Judged, Loss, Service, UpdateResult};
 use crate::outbox::Sent;

@@ -1,4 +1,4 @@
-//! The beginning of a file of a record.
+//! The events at the beginning of a record's file: they bring a new core to the present policies.
 
 use crate::event_lines::{fed_line, lost_line, up_line};
 use crate::faults::Fault;

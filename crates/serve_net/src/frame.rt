@@ -5,7 +5,7 @@ ghost use Rattle.serve_net.specs.Frame.{frame_of as framed};
 
 use std::alloc::{AllocError, Global};
 
-/// The message of these bytes: what is behind the frame's head, if they are one frame; else all of them. No message
+/// The message of these bytes: what is after the frame's head, if they are one frame; else all of them. No message
 /// begins with the byte 0, since no field of Protocol Buffers has the number 0.
 pub(crate) fn message_in(bytes: &[u8]) -> &[u8]
     ensures { length result.now ≤ length bytes.now }

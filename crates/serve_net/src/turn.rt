@@ -1,4 +1,4 @@
-//! Whose turn it is.
+//! Whose turn it is: the listener that is accepted from next.
 
 ghost use Rattle.std.specs.Prelude.{◌≡◌, ◌<◌, ◌+◌, ◌%◌};
 

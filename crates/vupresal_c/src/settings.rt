@@ -27,8 +27,8 @@ pub struct Resource<'a> {
     pub budget: u64,
 }
 
-/// The settings of a proxy: the node and its cluster, each of at most 256 bytes, 1 to 8 filters with distinct names, and
-/// the limits of requests.
+/// The settings of a proxy. The node and its cluster have at most 256 bytes each. There are 1 to 8 filters with distinct
+/// names, and the limits of requests.
 #[repr(C)]
 #[derive(Drop)]
 pub struct Settings<'a> {
