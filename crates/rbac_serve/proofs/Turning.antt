@@ -10,7 +10,7 @@ use Rattle.http_front.specs.Front.{FrontValue}
 use Rattle.proxy_core.specs.Events.{EventValue, ads_up, ads_bytes, ads_lost, http_open, http_bytes, http_closed, OutputValue, http_output, no_output}
 use Rattle.proxy_core.specs.Step.{CallsDo, EventCall, answered, no_memory, OpensAt, OpensFront, in_place, nowhere, ProxyValue, StepsBy, TakesAds, TakesHttp, front_at, front_in, with_client, with_conn}
 use Rattle.proxy_core.specs.declared.answered_ask.AnsweredAsk.{AnsweredAsk}
-use Rattle.proxy_core.proofs.ConnectionResult.{answers_takes}
+use Rattle.proxy_core.proofs.AnsweredAsks.{answers_takes}
 use Rattle.proxy_core.proofs.Places.{nobody_length}
 use Rattle.proxy_core.proofs.Tables.{bytes_step, close_step, open_step}
 use Rattle.rbac_serve.specs.Tables.{WorkerValue, closed_at, new_worker, waiting_at}
