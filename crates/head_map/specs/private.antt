@@ -1,4 +1,4 @@
 -- Definitions that only clauses of private functions and proofs use.
-pub mod FieldClaim
+pub mod FieldClaims
 pub mod Client
 pub mod Lines
