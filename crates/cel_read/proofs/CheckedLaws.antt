@@ -10,17 +10,17 @@ use Rattle.proto_wire.specs.declared.refusal.Refusal.{Refusal}
 use Rattle.proto_wire.specs.declared.refusal.Refusal.TheVariants.{Missing, TooLarge}
 use Rattle.proto_wire.proofs.WholeMaps.{map_total, map_disjoint, map_unique}
 use Rattle.cel_tree.specs.Checked.{CelChecked}
-use Rattle.cel_tree.specs.Message.{most_nodes, tree_depth, checked_field, checked_keys, CheckedSays, CheckedLacks, CheckedWrong, in_tree, in_nodes, in_types, in_refs, IsChecked, CheckedFault, IsUnchecked, UncheckedFault, ExprParts, checked_parts, unchecked_parts, IsExprOf, ExprFault, ArePresent}
-use Rattle.cel_tree.specs.private.Values.{ValuesFault}
+use Rattle.cel_tree.specs.Message.{most_nodes, tree_depth, checked_field, checked_keys, CheckedSays, CheckedLacks, CheckedWrong, in_expression, in_types, in_refs, IsChecked, CheckedFault, IsUnchecked, UncheckedFault, ExprParts, checked_parts, unchecked_parts, IsExprOf, ExprFault, ArePresent}
+use Rattle.proto_wire.specs.private.Values.{ValuesFault}
 use Rattle.cel_tree.specs.References.{IsReference, ReferenceFault}
 use Rattle.cel_tree.specs.Tree.{CelTree}
 use Rattle.cel_tree.specs.Nodes.{node_kinds, MemberSays}
-use Rattle.cel_tree.specs.Reading.{OneofSays, Never}
+use Rattle.proto_wire.specs.Reading.{OneofSays, Never}
 use Rattle.cel_tree.specs.Trees.{IsTree, node_count}
 use Rattle.cel_tree.specs.TypeEntries.{IsTypeEntry, TypeEntryFault}
 use Rattle.cel_read.proofs.Basics.{nil_or_not}
 use Rattle.cel_read.proofs.Counting.{nodes_there}
-use Rattle.cel_read.proofs.ReadingLaws.{reads_total, reads_disjoint, reads_unique}
+use Rattle.proto_wire.proofs.ReadingLaws.{reads_total, reads_disjoint, reads_unique}
 use Rattle.cel_read.proofs.ReferenceLaws.{reference_total, reference_disjoint, reference_unique}
 use Rattle.cel_read.proofs.TreeLaws.{tree_total, tree_disjoint, tree_unique, nodes_most}
 use Rattle.cel_read.proofs.TypeLaws.{type_total, type_disjoint, type_unique}
@@ -30,7 +30,7 @@ use Rattle.cel_read.proofs.TypeLaws.{type_total, type_disjoint, type_unique}
 nodes_total : (fs : List Wire) → payloads checked_field.expr fs ≢ [] → (t : CelTree) → IsTree tree_depth (payloads checked_field.expr fs) t
     → (node_count t ≤ most_nodes) ⊎ CheckedWrong fs TooLarge
 nodes_total fs there t is = elim (cases_lt most_nodes (node_count t)) [
-  | inl many ↦ inr (in_nodes there (node_count t, nodes_there tree_depth (payloads checked_field.expr fs) t is, many, refl))
+  | inl many ↦ inr (in_expression (there, inr (node_count t, nodes_there tree_depth (payloads checked_field.expr fs) t is, many, refl)))
   | inr few ↦ inl few
 ]
 
@@ -53,7 +53,7 @@ says_total : (fs : List Wire) → ((c : CelChecked) × CheckedSays fs c) ⊎ ((e
 says_total fs = elim (nil_or_not (payloads checked_field.expr fs)) [
   | inl none ↦ inr (Missing, inl (none, refl))
   | inr there ↦ elim (tree_total tree_depth (payloads checked_field.expr fs)) [
-    | inr (e, bad) ↦ inr (e, inr (in_tree there bad))
+    | inr (e, bad) ↦ inr (e, inr (in_expression (there, inl bad)))
     | inl (t, is) ↦ elim (nodes_total fs there t is) [
       | inr many ↦ inr (TooLarge, inr many)
       | inl few ↦ maps_total fs there t is few
@@ -63,8 +63,8 @@ says_total fs = elim (nil_or_not (payloads checked_field.expr fs)) [
 
 says_disjoint : (fs : List Wire) (c : CelChecked) (e : Refusal) → CheckedSays fs c → ValuesFault CheckedLacks CheckedWrong fs e → ⊥
 says_disjoint fs c e says (inl lacks) = says.there lacks.0
-says_disjoint fs c e says (inr (in_tree there bad)) = tree_disjoint tree_depth (payloads checked_field.expr fs) c.tree e says.tree bad
-says_disjoint fs c e says (inr (in_nodes there (n, has, many, is))) =
+says_disjoint fs c e says (inr (in_expression (there, inl bad))) = tree_disjoint tree_depth (payloads checked_field.expr fs) c.tree e says.tree bad
+says_disjoint fs c e says (inr (in_expression (there, inr (n, has, many, is)))) =
     let most : n ≤ node_count c.tree = nodes_most tree_depth (payloads checked_field.expr fs) c.tree n says.tree has in
     let few : node_count c.tree ≤ most_nodes = says.few in
     absurd (omega (arith, most, few, many))

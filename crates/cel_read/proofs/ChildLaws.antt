@@ -1,15 +1,16 @@
 -- The expressions that stand in a node's message are those inside the node, where the message is one.
 use Rattle.std.proofs.Common.{◌≡◌, ◌≢◌, ◌<◌, ◌⊎◌, ◌++◌, inl, inr, ℕ, ℤ, List, [], ◌∷◌, Contains, arith, refl, sym, subst, ◌∙◌}
+use Rattle.std.specs.List.{AllZip}
 use Rattle.proto_wire.specs.Fields.{Wire}
 use Rattle.proto_wire.specs.Merge.{Merges}
 use Rattle.proto_wire.specs.Values.{payloads}
 use Rattle.proto_wire.proofs.Unique.{merges_unique}
-use Rattle.cel_tree.specs.Nodes.{Parts, EntryNode, Node, singles, if_there, entry_children, children, loop_at, loop_children, IsMapEntry, AreEntries, node_kinds, KindSays, MemberSays, InEntry, InKind, IsChild, IsNode, select_field, call_field, list_field, struct_field, loop_field}
-use Rattle.cel_tree.specs.Reading.{Never}
+use Rattle.cel_tree.specs.Nodes.{Parts, EntryNode, Node, singles, if_there, entry_children, children, loop_at, loop_children, IsMapEntry, node_kinds, KindSays, MemberSays, InEntry, InKind, IsChild, IsNode, select_field, call_field, list_field, struct_field, loop_field}
+use Rattle.proto_wire.specs.Reading.{Never}
 use Rattle.cel_tree.specs.declared.kinds.NodeKind.{NodeKind}
 use Rattle.cel_tree.specs.declared.kinds.NodeKind.TheVariants as kinds
 use Rattle.cel_read.proofs.Basics.{contains_first, contains_later, contains_cases}
-use Rattle.cel_read.proofs.Standing.{stands, stood}
+use Rattle.proto_wire.proofs.Standing.{stands, stood}
 
 -- nothing is in no list
 none_in : {A : Type 0} (x : A) → Contains [] x → ⊥
@@ -57,7 +58,7 @@ of_arg (q ∷ qs) ps p here = contains_later (q ∷ qs) (p ∷ []) (singles ps) 
 
 -- ---- entries
 
-in_entries : (ps : List (List ℕ)) (es : List EntryNode) (child : Parts) → AreEntries ps es
+in_entries : (ps : List (List ℕ)) (es : List EntryNode) (child : Parts) → AllZip IsMapEntry ps es
     → Contains (entry_children es) child
     → (entry : List ℕ) × (own : List Wire) × Contains ps entry × Merges (entry ∷ []) own × InEntry own child
 in_entries [] [] child are here = absurd (none_in child here)
@@ -88,7 +89,7 @@ of_entry p x es own child (fs, message, says) merges inside =
     ]
 
 of_entries : (ps : List (List ℕ)) (es : List EntryNode) (entry : List ℕ) (own : List Wire) (child : Parts)
-    → AreEntries ps es → Contains ps entry → Merges (entry ∷ []) own → InEntry own child
+    → AllZip IsMapEntry ps es → Contains ps entry → Merges (entry ∷ []) own → InEntry own child
     → Contains (entry_children es) child
 of_entries [] es entry own child are here merges inside = absurd (none_in entry here)
 of_entries (p ∷ ps) [] entry own child are here merges inside = absurd are
@@ -123,15 +124,15 @@ in_kind kinds.Comprehension parts node child (fs, message, (names, there, same))
       fs,
       message.0,
       elim (contains_cases (payloads loop_field.iter_range fs) child (payloads loop_field.accu_init fs ∷ payloads loop_field.loop_condition fs ∷ payloads loop_field.loop_step fs ∷ payloads loop_field.result fs ∷ []) all) [
-        | inl is ↦ inl (there.iter_range, sym is)
+        | inl is ↦ inl (there.0, sym is)
         | inr a ↦ inr (elim (contains_cases (payloads loop_field.accu_init fs) child (payloads loop_field.loop_condition fs ∷ payloads loop_field.loop_step fs ∷ payloads loop_field.result fs ∷ []) a) [
-          | inl is ↦ inl (there.accu_init, sym is)
+          | inl is ↦ inl (there.1.0, sym is)
           | inr b ↦ inr (elim (contains_cases (payloads loop_field.loop_condition fs) child (payloads loop_field.loop_step fs ∷ payloads loop_field.result fs ∷ []) b) [
-            | inl is ↦ inl (there.loop_condition, sym is)
+            | inl is ↦ inl (there.1.1.0, sym is)
             | inr d ↦ inr (elim (contains_cases (payloads loop_field.loop_step fs) child (payloads loop_field.result fs ∷ []) d) [
-              | inl is ↦ inl (there.loop_step, sym is)
+              | inl is ↦ inl (there.1.1.1.0, sym is)
               | inr e ↦ inr (elim (contains_cases (payloads loop_field.result fs) child [] e) [
-                | inl is ↦ (there.result, sym is)
+                | inl is ↦ inl (there.1.1.1.1.0, sym is)
                 | inr none ↦ absurd (none_in child none)
               ])
             ])
@@ -156,9 +157,10 @@ of_loop fs child parts =
           (contains_first c (d ∷ e ∷ []))))
       | inr (inr (inr (inl (there, is)))) ↦ rw is (contains_later a d (b ∷ c ∷ d ∷ e ∷ [])
           (contains_later b d (c ∷ d ∷ e ∷ []) (contains_later c d (d ∷ e ∷ []) (contains_first d (e ∷ [])))))
-      | inr (inr (inr (inr (there, is)))) ↦ rw is (contains_later a e (b ∷ c ∷ d ∷ e ∷ [])
+      | inr (inr (inr (inr (inl (there, is))))) ↦ rw is (contains_later a e (b ∷ c ∷ d ∷ e ∷ [])
           (contains_later b e (c ∷ d ∷ e ∷ []) (contains_later c e (d ∷ e ∷ []) (contains_later d e (e ∷ [])
           (contains_first e [])))))
+      | inr (inr (inr (inr (inr none)))) ↦ absurd none
     ]
 
 -- an expression that stands in the message is inside, by the fields that it says the node by

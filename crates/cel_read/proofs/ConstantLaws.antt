@@ -7,11 +7,11 @@ use Rattle.proto_wire.specs.declared.refusal.Refusal.TheVariants.{BadText}
 use Rattle.cel_value.specs.Texts.{points_of}
 use Rattle.cel_value.specs.Values.{CelValue, bool, int, uint, text, bytes}
 use Rattle.cel_tree.specs.Constants.{constants, constant_keys, ConstantSays, ConstantFails, IsConstant, ConstantFault}
-use Rattle.cel_tree.specs.Reading.{OneofSays, Never, LacksMember, IsUnsupported, OneofFault}
+use Rattle.proto_wire.specs.Reading.{OneofSays, Never, LacksMember, IsUnsupported, OneofFault}
 use Rattle.cel_tree.specs.declared.kinds.ConstantKind.{ConstantKind}
 use Rattle.cel_tree.specs.declared.kinds.ConstantKind.TheVariants as kinds
 use Rattle.cel_read.proofs.Basics.{utf8_total}
-use Rattle.cel_read.proofs.ReadingLaws.{reads_total, reads_disjoint, reads_unique, oneof_total, oneof_disjoint, oneof_unique}
+use Rattle.proto_wire.proofs.ReadingLaws.{reads_total, reads_disjoint, reads_unique, oneof_total, oneof_disjoint, oneof_unique}
 
 kind_total : (kind : ConstantKind) (n : ℕ) (run : List Wire)
     → ((v : CelValue) × ConstantSays kind n run v) ⊎ ((e : Refusal) × ConstantFails kind n run e)

@@ -1,12 +1,13 @@
 -- Entries of map literals, as they are read.
 use Rattle.std.proofs.Common.{◌≡◌, ◌≢◌, ◌++◌, inl, inr, ℕ, List, [], ◌∷◌, Bor, Some, None, MatchOption, refl}
+use Rattle.std.specs.List.{AllZip}
 use Rattle.proto_wire.specs.Fields.{Wire}
 use Rattle.proto_wire.specs.Merge.{parts_view}
 use Rattle.proto_wire.specs.declared.refusal.Refusal.{Refusal}
 use Rattle.proto_wire.specs.declared.refusal.Refusal.TheVariants.{Missing, Unsupported}
-use Rattle.cel_tree.specs.private.Values.{ValuesFault}
+use Rattle.proto_wire.specs.private.Values.{ValuesFault}
 use Rattle.proto_wire.specs.Oneof.{last_number}
-use Rattle.cel_tree.specs.Nodes.{entry_field, key_members, EntryLacks, EntryWrong, key_of_message, IsMapEntry, AreEntries}
+use Rattle.cel_tree.specs.Nodes.{entry_field, key_members, EntryLacks, EntryWrong, key_of_message, IsMapEntry}
 use Rattle.cel_read.specs.private.EntryViews.{entry_node_view, entry_nodes_view}
 use Rattle.cel_read.specs.declared.parsed.EntryNode.{EntryNode}
 
@@ -23,8 +24,8 @@ key_bad fs e = elim (last_number key_members fs) as (λ o. last_number key_membe
 
 -- one entry more
 pub entries_push : (payloads : List (Bor (List ℕ))) (es : List EntryNode) (payload : Bor (List ℕ)) (e : EntryNode)
-    → AreEntries (parts_view payloads) (entry_nodes_view es) → IsMapEntry payload.now (entry_node_view e)
-    → AreEntries (parts_view (payloads ++ payload ∷ [])) (entry_nodes_view (es ++ e ∷ []))
+    → AllZip IsMapEntry (parts_view payloads) (entry_nodes_view es) → IsMapEntry payload.now (entry_node_view e)
+    → AllZip IsMapEntry (parts_view (payloads ++ payload ∷ [])) (entry_nodes_view (es ++ e ∷ []))
 entries_push [] [] payload e are is = (is, tt)
 entries_push [] (x ∷ es) payload e are is = absurd are
 entries_push (p ∷ payloads) [] payload e are is = absurd are

@@ -10,7 +10,7 @@ use Rattle.cel_tree.specs.Constants.{constants, constant_keys, ConstantSays, IsC
 use Rattle.cel_tree.specs.GoodConstants.{IsGoodConstant, HasGoodConstants, AreGood, EntriesAreGood}
 use Rattle.cel_tree.specs.Message.{tree_depth, checked_field, IsExprOf, ExprParts, checked_parts, unchecked_parts}
 use Rattle.cel_tree.specs.Nodes.{Parts, EntryNode, Node, constant_node, ident_node, select_node, call_node, list_node, map_node, loop_node, children, node_kinds, kind_keys, KindSays, MemberSays, IsNode}
-use Rattle.cel_tree.specs.Reading.{Never}
+use Rattle.proto_wire.specs.Reading.{Never}
 use Rattle.cel_tree.specs.Tree.{CelTree, CelTrees, no_trees, tree, CelTreeEntries}
 use Rattle.cel_tree.specs.Trees.{MadeEntries, Makes, AreTrees, IsTree}
 use Rattle.cel_tree.specs.declared.kinds.ConstantKind.{ConstantKind}
@@ -18,7 +18,7 @@ use Rattle.cel_tree.specs.declared.kinds.ConstantKind.TheVariants as constant_ki
 use Rattle.cel_tree.specs.declared.kinds.NodeKind.{NodeKind}
 use Rattle.cel_tree.specs.declared.kinds.NodeKind.TheVariants as kinds
 use Rattle.cel_read.proofs.Bounds.{AreSmall, merges_small, member_run_small, varint_below, int64_fits}
-use Rattle.cel_read.proofs.Standing.{oneof_opened}
+use Rattle.proto_wire.proofs.Standing.{oneof_opened}
 
 -- ---- constants
 

@@ -3,6 +3,7 @@ use Rattle.std.proofs.Common.{◌≡◌, inl, inr, ℕ, zero, suc, ℤ, true, fa
 use Rattle.std.proofs.lemmas.List.{reverse-append}
 use Rattle.std.specs.Cmp.{int_cmp_total}
 use Rattle.std.specs.FinMap.{FinMap, find, get, get-from_entries, int_cmp-IsAntisymmetric}
+use Rattle.std.specs.List.{AllZip}
 use Rattle.std.specs.Ordering.{int_cmp, eq_by_cmp}
 use Rattle.proto_wire.specs.Maps.{Entry, int64, AreEntries, map_of, IsMap}
 use Rattle.proto_wire.specs.Oneof.{member_run}
@@ -14,7 +15,7 @@ use Rattle.cel_tree.specs.Ids.{HasIds, AllHaveIds, EntriesHaveIds, MapHasIds, Id
 use Rattle.cel_tree.specs.Message.{tree_depth, checked_field, IsChecked}
 use Rattle.cel_tree.specs.Nodes.{Parts, EntryNode, Node, constant_node, ident_node, select_node, call_node, list_node, map_node, loop_node, children, node_kinds, kind_keys, KindSays, MemberSays, IsNode, entry_field, struct_field, node_field}
 use Rattle.cel_tree.specs.Nodes as nodes
-use Rattle.cel_tree.specs.Reading.{Never}
+use Rattle.proto_wire.specs.Reading.{Never}
 use Rattle.cel_tree.specs.References.{IsReference}
 use Rattle.cel_tree.specs.Tree.{CelTree, CelTrees, no_trees, tree, CelTreeEntries}
 use Rattle.cel_tree.specs.Trees.{MadeEntries, Makes, AreTrees, IsTree}
@@ -22,7 +23,7 @@ use Rattle.cel_tree.specs.TypeEntries.{IsTypeEntry}
 use Rattle.cel_tree.specs.declared.kinds.NodeKind.{NodeKind}
 use Rattle.cel_tree.specs.declared.kinds.NodeKind.TheVariants as kinds
 use Rattle.cel_read.proofs.Bounds.{merges_small, int64_fits}
-use Rattle.cel_read.proofs.Standing.{oneof_opened}
+use Rattle.proto_wire.proofs.Standing.{oneof_opened}
 
 -- ---- nodes
 
@@ -34,7 +35,7 @@ abbrev pub NodeFits : Node → Type 0
 NodeFits (map_node es) = EntriesFit es
 NodeFits _ = Unit {0}
 
-entries_fit : (parts : List (List ℕ)) (es : List EntryNode) → nodes.AreEntries parts es → EntriesFit es
+entries_fit : (parts : List (List ℕ)) (es : List EntryNode) → AllZip nodes.IsMapEntry parts es → EntriesFit es
 entries_fit [] [] are = tt
 entries_fit [] (e ∷ es) are = absurd are
 entries_fit (part ∷ parts) [] are = absurd are

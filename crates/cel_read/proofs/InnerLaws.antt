@@ -9,7 +9,7 @@ use Rattle.cel_tree.specs.TypeEntries.{TypeNode, plain, list_of, map_of, map_typ
 use Rattle.cel_read.specs.private.InnerTypes.{HoldsFault}
 use Rattle.cel_tree.specs.declared.kinds.TypeKind.{TypeKind}
 use Rattle.cel_tree.specs.declared.kinds.TypeKind.TheVariants as kinds
-use Rattle.cel_read.proofs.Standing.{stands, stood}
+use Rattle.proto_wire.proofs.Standing.{stands, stood}
 
 -- the inner parts are those of a type inside
 abbrev pub IsInside : TypeNode → List (List ℕ) → Type 0

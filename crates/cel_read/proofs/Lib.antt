@@ -1,7 +1,6 @@
 pub mod Basics
 pub mod Texts
 pub mod Entries
-pub mod Standing
 pub mod ChildLaws
 pub mod InnerLaws
 pub mod Counting
@@ -9,7 +8,6 @@ pub mod Insides
 pub mod PlaceLaws
 pub mod TypeLevels
 pub mod NamedMaps
-pub mod ReadingLaws
 pub mod ConstantLaws
 pub mod ReferenceLaws
 pub mod TypeLaws

@@ -1,36 +1,39 @@
 -- The payloads of a single node are one or have a fault, never both, and are one node at most.
-use Rattle.std.proofs.Common.{◌≡◌, ◌<◌, ◌⊎◌, inl, inr, ℕ, ℤ, Bool, true, false, List, [], ◌∷◌, Contains, Option, Some, None, arith, refl, sym, ap, subst, ◌∙◌}
+use Rattle.std.proofs.Common.{◌≡◌, ◌≢◌, ◌<◌, ◌⊎◌, inl, inr, ℕ, ℤ, Bool, true, false, List, [], ◌∷◌, Contains, Option, Some, None, arith, refl, sym, ap, subst, ◌∙◌}
+use Rattle.std.specs.List.{AllByRecursion, AllZip}
+use Rattle.std.specs.Str.{IsUtf8}
 use Rattle.proto_wire.specs.Fields.{Wire}
+use Rattle.proto_wire.specs.Merge.{SomeOf}
 use Rattle.proto_wire.specs.Oneof.{member_run, last_number}
-use Rattle.proto_wire.specs.Values.{bool_at, int64_at, bytes_at, payloads, has_field}
+use Rattle.proto_wire.specs.Values.{bool_at, int64_at, bytes_at, payloads, has_field, Utf8Fault, StringFault}
 use Rattle.proto_wire.specs.declared.refusal.Refusal.{Refusal}
 use Rattle.proto_wire.specs.declared.refusal.Refusal.TheVariants.{BadText, Missing, Unsupported}
 use Rattle.cel_value.specs.Texts.{points_of}
-use Rattle.cel_tree.specs.Nodes.{EntryNode, Node, constant_node, ident_node, select_node, call_node, list_node, map_node, loop_node, ident_keys, IdentSays, IdentWrong, select_keys, SelectSays, SelectLacks, SelectWrong, call_keys, CallSays, CallWrong, list_keys, ListSays, ListWrong, key_members, entry_keys, EntrySays, EntryLacks, EntryWrong, optional, key_of_message, IsMapEntry, MapEntryFault, AreEntries, struct_keys, StructSays, StructWrong, bad_name, of_message, in_entry, loop_keys, NamesRead, PartsThere, loop_at, LoopSays, LacksPart, no_range, no_init, no_condition, no_step, no_result, LoopLacks, LoopWrong, bad_iter_var, bad_accu_var, bad_second_name, node_kinds, node_keys, KindSays, KindFault, MemberSays, MemberFails, NodeSays, IsNode, NodeFault, ident_field, select_field, call_field, list_field, entry_field, struct_field, loop_field, node_field}
-use Rattle.cel_tree.specs.Reading.{LacksNothing, Never, LacksMember, IsUnsupported, OneofFault}
-use Rattle.cel_tree.specs.private.Values.{ValuesFault}
+use Rattle.cel_tree.specs.Nodes.{EntryNode, Node, constant_node, ident_node, select_node, call_node, list_node, map_node, loop_node, ident_keys, IdentSays, select_keys, SelectSays, SelectLacks, call_keys, CallSays, list_keys, ListSays, ListWrong, key_members, entry_keys, EntrySays, EntryLacks, EntryWrong, optional, key_of_message, IsMapEntry, MapEntryFault, struct_keys, StructSays, StructWrong, bad_name, of_message, in_entry, loop_names, loop_parts, loop_keys, NamesRead, PartsThere, loop_at, LoopSays, LoopLacks, LoopWrong, node_kinds, node_keys, KindSays, KindFault, MemberSays, MemberFails, NodeSays, IsNode, NodeFault, ident_field, select_field, call_field, list_field, entry_field, struct_field, loop_field, node_field}
+use Rattle.proto_wire.specs.Reading.{Never, LacksMember, IsUnsupported, OneofFault}
+use Rattle.proto_wire.specs.private.Values.{ValuesFault}
 use Rattle.cel_tree.specs.declared.kinds.NodeKind.{NodeKind}
 use Rattle.cel_tree.specs.declared.kinds.NodeKind.TheVariants as kinds
 use Rattle.cel_read.proofs.Basics.{nil_or_not, empty_text, same_or_not, utf8_total, contains_first, contains_later, contains_cases}
 use Rattle.cel_read.proofs.ConstantLaws.{constant_total, constant_disjoint, constant_unique}
-use Rattle.cel_read.proofs.ReadingLaws.{reads_total, reads_disjoint, reads_unique, oneof_total, oneof_disjoint, oneof_unique}
+use Rattle.proto_wire.proofs.ReadingLaws.{reads_total, reads_disjoint, reads_unique, oneof_total, oneof_disjoint, oneof_unique}
 
 -- ---- Ident, Select and Call
 
-ident_total : (fs : List Wire) → ((node : Node) × IdentSays fs node) ⊎ ((e : Refusal) × ValuesFault LacksNothing IdentWrong fs e)
+ident_total : (fs : List Wire) → ((node : Node) × IdentSays fs node) ⊎ ((e : Refusal) × ValuesFault Never (StringFault ident_field.name) fs e)
 ident_total fs = elim (utf8_total (bytes_at ident_field.name fs)) [
   | inl utf8 ↦ inl (ident_node (points_of (bytes_at ident_field.name fs)), (utf8, refl))
   | inr other ↦ inr (BadText, inr (other, refl))
 ]
 
-ident_disjoint : (fs : List Wire) (node : Node) (e : Refusal) → IdentSays fs node → ValuesFault LacksNothing IdentWrong fs e → ⊥
+ident_disjoint : (fs : List Wire) (node : Node) (e : Refusal) → IdentSays fs node → ValuesFault Never (StringFault ident_field.name) fs e → ⊥
 ident_disjoint fs node e says (inl none) = none.0
 ident_disjoint fs node e says (inr bad) = bad.0 says.0
 
 ident_unique : (fs : List Wire) (a b : Node) → IdentSays fs a → IdentSays fs b → a ≡ b
 ident_unique fs a b x y = x.1 ∙ sym y.1
 
-select_total : (fs : List Wire) → ((node : Node) × SelectSays fs node) ⊎ ((e : Refusal) × ValuesFault SelectLacks SelectWrong fs e)
+select_total : (fs : List Wire) → ((node : Node) × SelectSays fs node) ⊎ ((e : Refusal) × ValuesFault SelectLacks (StringFault select_field.field) fs e)
 select_total fs = elim (utf8_total (bytes_at select_field.field fs)) [
   | inr other ↦ inr (BadText, inr (other, refl))
   | inl utf8 ↦ elim (nil_or_not (payloads select_field.operand fs)) [
@@ -39,20 +42,20 @@ select_total fs = elim (utf8_total (bytes_at select_field.field fs)) [
   ]
 ]
 
-select_disjoint : (fs : List Wire) (node : Node) (e : Refusal) → SelectSays fs node → ValuesFault SelectLacks SelectWrong fs e → ⊥
+select_disjoint : (fs : List Wire) (node : Node) (e : Refusal) → SelectSays fs node → ValuesFault SelectLacks (StringFault select_field.field) fs e → ⊥
 select_disjoint fs node e says (inl lacks) = says.1 lacks.0.1
 select_disjoint fs node e says (inr bad) = bad.0 says.0
 
 select_unique : (fs : List Wire) (a b : Node) → SelectSays fs a → SelectSays fs b → a ≡ b
 select_unique fs a b x y = x.2 ∙ sym y.2
 
-call_total : (fs : List Wire) → ((node : Node) × CallSays fs node) ⊎ ((e : Refusal) × ValuesFault LacksNothing CallWrong fs e)
+call_total : (fs : List Wire) → ((node : Node) × CallSays fs node) ⊎ ((e : Refusal) × ValuesFault Never (StringFault call_field.function) fs e)
 call_total fs = elim (utf8_total (bytes_at call_field.function fs)) [
   | inl utf8 ↦ inl (call_node (points_of (bytes_at call_field.function fs)) (payloads call_field.target fs) (payloads call_field.args fs), (utf8, refl))
   | inr other ↦ inr (BadText, inr (other, refl))
 ]
 
-call_disjoint : (fs : List Wire) (node : Node) (e : Refusal) → CallSays fs node → ValuesFault LacksNothing CallWrong fs e → ⊥
+call_disjoint : (fs : List Wire) (node : Node) (e : Refusal) → CallSays fs node → ValuesFault Never (StringFault call_field.function) fs e → ⊥
 call_disjoint fs node e says (inl none) = none.0
 call_disjoint fs node e says (inr bad) = bad.0 says.0
 
@@ -68,13 +71,13 @@ false_or_true false = inl refl
 not_both : (b : Bool) → b ≡ false → b ≡ true → ⊥
 not_both b is other = let clash : false ≡ true = sym is ∙ other in cc
 
-list_total : (fs : List Wire) → ((node : Node) × ListSays fs node) ⊎ ((e : Refusal) × ValuesFault LacksNothing ListWrong fs e)
+list_total : (fs : List Wire) → ((node : Node) × ListSays fs node) ⊎ ((e : Refusal) × ValuesFault Never ListWrong fs e)
 list_total fs = elim (false_or_true (has_field list_field.optional_indices fs)) [
   | inl plain ↦ inl (list_node (payloads list_field.elements fs), (plain, refl))
   | inr there ↦ inr (Unsupported, inr (there, refl))
 ]
 
-list_disjoint : (fs : List Wire) (node : Node) (e : Refusal) → ListSays fs node → ValuesFault LacksNothing ListWrong fs e → ⊥
+list_disjoint : (fs : List Wire) (node : Node) (e : Refusal) → ListSays fs node → ValuesFault Never ListWrong fs e → ⊥
 list_disjoint fs node e says (inl none) = none.0
 list_disjoint fs node e says (inr bad) = not_both (has_field list_field.optional_indices fs) says.0 bad.0
 
@@ -127,7 +130,7 @@ entry_unique : (payload : List ℕ) (a b : EntryNode) → IsMapEntry payload a �
 entry_unique payload = reads_unique entry_keys EntrySays entry_says_unique (payload ∷ [])
 
 entries_total : (payloads : List (List ℕ))
-    → ((es : List EntryNode) × AreEntries payloads es)
+    → ((es : List EntryNode) × AllZip IsMapEntry payloads es)
     ⊎ ((payload : List ℕ) × Contains payloads payload × (e : Refusal) × MapEntryFault payload e)
 entries_total [] = inl ([], tt)
 entries_total (p ∷ ps) = elim (entry_total p) [
@@ -139,7 +142,7 @@ entries_total (p ∷ ps) = elim (entry_total p) [
 ]
 
 entries_disjoint : (payloads : List (List ℕ)) (es : List EntryNode) (payload : List ℕ) (e : Refusal)
-    → AreEntries payloads es → Contains payloads payload → MapEntryFault payload e → ⊥
+    → AllZip IsMapEntry payloads es → Contains payloads payload → MapEntryFault payload e → ⊥
 entries_disjoint [] es payload e are here bad = let lt : here.0 < 0 = here.1 in absurd (omega arith)
 entries_disjoint (p ∷ ps) [] payload e are here bad = are
 entries_disjoint (p ∷ ps) (x ∷ es) payload e are here bad = elim (contains_cases p payload ps here) [
@@ -147,7 +150,7 @@ entries_disjoint (p ∷ ps) (x ∷ es) payload e are here bad = elim (contains_c
   | inr later ↦ entries_disjoint ps es payload e are.1 later bad
 ]
 
-entries_unique : (payloads : List (List ℕ)) (es ds : List EntryNode) → AreEntries payloads es → AreEntries payloads ds → es ≡ ds
+entries_unique : (payloads : List (List ℕ)) (es ds : List EntryNode) → AllZip IsMapEntry payloads es → AllZip IsMapEntry payloads ds → es ≡ ds
 entries_unique [] [] [] a b = refl
 entries_unique [] [] (d ∷ ds) a b = absurd b
 entries_unique [] (x ∷ es) ds a b = absurd a
@@ -158,7 +161,7 @@ entries_unique (p ∷ ps) (x ∷ es) (d ∷ ds) a b =
     let others : es ≡ ds = entries_unique ps es ds a.1 b.1 in
     cc
 
-struct_total : (fs : List Wire) → ((node : Node) × StructSays fs node) ⊎ ((e : Refusal) × ValuesFault LacksNothing StructWrong fs e)
+struct_total : (fs : List Wire) → ((node : Node) × StructSays fs node) ⊎ ((e : Refusal) × ValuesFault Never StructWrong fs e)
 struct_total fs = elim (nil_or_not (bytes_at struct_field.message_name fs)) [
   | inr named ↦ inr (Unsupported, inr (of_message named refl))
   | inl plain ↦ elim (entries_total (payloads struct_field.entries fs)) [
@@ -167,7 +170,7 @@ struct_total fs = elim (nil_or_not (bytes_at struct_field.message_name fs)) [
   ]
 ]
 
-struct_disjoint : (fs : List Wire) (node : Node) (e : Refusal) → StructSays fs node → ValuesFault LacksNothing StructWrong fs e → ⊥
+struct_disjoint : (fs : List Wire) (node : Node) (e : Refusal) → StructSays fs node → ValuesFault Never StructWrong fs e → ⊥
 struct_disjoint fs node e says (inl none) = none.0
 struct_disjoint fs node e says (inr (bad_name bad)) = bad.0 (empty_text (bytes_at struct_field.message_name fs) says.0)
 struct_disjoint fs node e says (inr (of_message named is)) = named says.0
@@ -181,28 +184,28 @@ struct_unique fs a b (plain, es, are, is) (plain', ds, are', is') =
 
 names_total : (fs : List Wire) → NamesRead fs ⊎ ((e : Refusal) × LoopWrong fs e)
 names_total fs = elim (utf8_total (bytes_at loop_field.iter_var fs)) [
-  | inr other ↦ inr (BadText, bad_iter_var (other, refl))
+  | inr other ↦ inr (BadText, inl (other, refl))
   | inl iter ↦ elim (utf8_total (bytes_at loop_field.accu_var fs)) [
-    | inr other ↦ inr (BadText, bad_accu_var (other, refl))
+    | inr other ↦ inr (BadText, inr (inl (other, refl)))
     | inl accu ↦ elim (utf8_total (bytes_at loop_field.iter_var2 fs)) [
-      | inr other ↦ inr (BadText, bad_second_name (other, refl))
-      | inl second ↦ inl (record { iter_var = iter; accu_var = accu; iter_var2 = second })
+      | inr other ↦ inr (BadText, inr (inr (inl (other, refl))))
+      | inl second ↦ inl (iter, (accu, (second, tt)))
     ]
   ]
 ]
 
-parts_total : (fs : List Wire) → PartsThere fs ⊎ LacksPart fs
+parts_total : (fs : List Wire) → PartsThere fs ⊎ SomeOf (λ n. payloads n fs ≡ []) loop_parts
 parts_total fs = elim (nil_or_not (payloads loop_field.iter_range fs)) [
-  | inl none ↦ inr (no_range none)
+  | inl none ↦ inr (inl none)
   | inr range ↦ elim (nil_or_not (payloads loop_field.accu_init fs)) [
-    | inl none ↦ inr (no_init none)
+    | inl none ↦ inr (inr (inl none))
     | inr init ↦ elim (nil_or_not (payloads loop_field.loop_condition fs)) [
-      | inl none ↦ inr (no_condition none)
+      | inl none ↦ inr (inr (inr (inl none)))
       | inr condition ↦ elim (nil_or_not (payloads loop_field.loop_step fs)) [
-        | inl none ↦ inr (no_step none)
+        | inl none ↦ inr (inr (inr (inr (inl none))))
         | inr step ↦ elim (nil_or_not (payloads loop_field.result fs)) [
-          | inl none ↦ inr (no_result none)
-          | inr result ↦ inl (record { iter_range = range; accu_init = init; loop_condition = condition; loop_step = step; result = result })
+          | inl none ↦ inr (inr (inr (inr (inr (inl none)))))
+          | inr result ↦ inl (range, (init, (condition, (step, (result, tt)))))
         ]
       ]
     ]
@@ -218,18 +221,21 @@ loop_total fs = elim (names_total fs) [
   ]
 ]
 
-parts_disjoint : (fs : List Wire) → PartsThere fs → LacksPart fs → ⊥
-parts_disjoint fs there (no_range none) = there.iter_range none
-parts_disjoint fs there (no_init none) = there.accu_init none
-parts_disjoint fs there (no_condition none) = there.loop_condition none
-parts_disjoint fs there (no_step none) = there.loop_step none
-parts_disjoint fs there (no_result none) = there.result none
+parts_disjoint : (fs : List Wire) → (ns : List ℕ) → AllByRecursion (λ n. payloads n fs ≢ []) ns
+    → SomeOf (λ n. payloads n fs ≡ []) ns → ⊥
+parts_disjoint fs [] there lacks = lacks
+parts_disjoint fs (n ∷ ns) there (inl none) = there.0 none
+parts_disjoint fs (n ∷ ns) there (inr later) = parts_disjoint fs ns there.1 later
+
+names_disjoint : (fs : List Wire) (e : Refusal) → (ns : List ℕ) → AllByRecursion (λ n. IsUtf8 (bytes_at n fs)) ns
+    → SomeOf (λ n. Utf8Fault (bytes_at n fs) e) ns → ⊥
+names_disjoint fs e [] read bad = bad
+names_disjoint fs e (n ∷ ns) read (inl bad) = bad.0 read.0
+names_disjoint fs e (n ∷ ns) read (inr later) = names_disjoint fs e ns read.1 later
 
 loop_disjoint : (fs : List Wire) (node : Node) (e : Refusal) → LoopSays fs node → ValuesFault LoopLacks LoopWrong fs e → ⊥
-loop_disjoint fs node e says (inl lacks) = parts_disjoint fs says.1 lacks.0.1
-loop_disjoint fs node e says (inr (bad_iter_var bad)) = bad.0 says.0.iter_var
-loop_disjoint fs node e says (inr (bad_accu_var bad)) = bad.0 says.0.accu_var
-loop_disjoint fs node e says (inr (bad_second_name bad)) = bad.0 says.0.iter_var2
+loop_disjoint fs node e says (inl lacks) = parts_disjoint fs loop_parts says.1 lacks.0.1
+loop_disjoint fs node e says (inr bad) = names_disjoint fs e loop_names says.0 bad
 
 loop_unique : (fs : List Wire) (a b : Node) → LoopSays fs a → LoopSays fs b → a ≡ b
 loop_unique fs a b x y = x.2 ∙ sym y.2
@@ -241,20 +247,20 @@ kind_total kinds.Constant parts = elim (constant_total parts) [
   | inl (v, is) ↦ inl (constant_node v, (v, is, refl))
   | inr bad ↦ inr bad
 ]
-kind_total kinds.Ident parts = reads_total ident_keys IdentSays LacksNothing IdentWrong ident_total parts
-kind_total kinds.Select parts = reads_total select_keys SelectSays SelectLacks SelectWrong select_total parts
-kind_total kinds.Call parts = reads_total call_keys CallSays LacksNothing CallWrong call_total parts
-kind_total kinds.List parts = reads_total list_keys ListSays LacksNothing ListWrong list_total parts
-kind_total kinds.Struct parts = reads_total struct_keys StructSays LacksNothing StructWrong struct_total parts
+kind_total kinds.Ident parts = reads_total ident_keys IdentSays Never (StringFault ident_field.name) ident_total parts
+kind_total kinds.Select parts = reads_total select_keys SelectSays SelectLacks (StringFault select_field.field) select_total parts
+kind_total kinds.Call parts = reads_total call_keys CallSays Never (StringFault call_field.function) call_total parts
+kind_total kinds.List parts = reads_total list_keys ListSays Never ListWrong list_total parts
+kind_total kinds.Struct parts = reads_total struct_keys StructSays Never StructWrong struct_total parts
 kind_total kinds.Comprehension parts = reads_total loop_keys LoopSays LoopLacks LoopWrong loop_total parts
 
 kind_disjoint : (kind : NodeKind) (parts : List (List ℕ)) (node : Node) (e : Refusal) → KindSays kind parts node → KindFault kind parts e → ⊥
 kind_disjoint kinds.Constant parts node e (v, is, same) bad = constant_disjoint parts v e is bad
-kind_disjoint kinds.Ident parts node e says bad = reads_disjoint ident_keys IdentSays LacksNothing IdentWrong ident_disjoint parts node e says bad
-kind_disjoint kinds.Select parts node e says bad = reads_disjoint select_keys SelectSays SelectLacks SelectWrong select_disjoint parts node e says bad
-kind_disjoint kinds.Call parts node e says bad = reads_disjoint call_keys CallSays LacksNothing CallWrong call_disjoint parts node e says bad
-kind_disjoint kinds.List parts node e says bad = reads_disjoint list_keys ListSays LacksNothing ListWrong list_disjoint parts node e says bad
-kind_disjoint kinds.Struct parts node e says bad = reads_disjoint struct_keys StructSays LacksNothing StructWrong struct_disjoint parts node e says bad
+kind_disjoint kinds.Ident parts node e says bad = reads_disjoint ident_keys IdentSays Never (StringFault ident_field.name) ident_disjoint parts node e says bad
+kind_disjoint kinds.Select parts node e says bad = reads_disjoint select_keys SelectSays SelectLacks (StringFault select_field.field) select_disjoint parts node e says bad
+kind_disjoint kinds.Call parts node e says bad = reads_disjoint call_keys CallSays Never (StringFault call_field.function) call_disjoint parts node e says bad
+kind_disjoint kinds.List parts node e says bad = reads_disjoint list_keys ListSays Never ListWrong list_disjoint parts node e says bad
+kind_disjoint kinds.Struct parts node e says bad = reads_disjoint struct_keys StructSays Never StructWrong struct_disjoint parts node e says bad
 kind_disjoint kinds.Comprehension parts node e says bad = reads_disjoint loop_keys LoopSays LoopLacks LoopWrong loop_disjoint parts node e says bad
 
 kind_unique : (kind : NodeKind) (parts : List (List ℕ)) (a b : Node) → KindSays kind parts a → KindSays kind parts b → a ≡ b

@@ -4,13 +4,13 @@ use Rattle.proto_wire.specs.Maps.{MapFault, int64, in_entry, in_value}
 use Rattle.proto_wire.specs.Fields.{Wire}
 use Rattle.proto_wire.specs.Places.{Path}
 use Rattle.proto_wire.specs.declared.refusal.Refusal.{Refusal}
-use Rattle.cel_tree.specs.Message.{CheckedFault, CheckedLacks, CheckedWrong, ExprFault, ExprParts, UncheckedFault, checked_keys, checked_parts, unchecked_parts, in_nodes, in_tree, most_nodes, tree_depth}
+use Rattle.cel_tree.specs.Message.{CheckedFault, CheckedLacks, CheckedWrong, ExprFault, ExprParts, UncheckedFault, checked_keys, checked_parts, unchecked_parts, in_expression, most_nodes, tree_depth}
 use Rattle.cel_tree.specs.Message as messages
 use Rattle.cel_tree.specs.Nodes.{Parts, children}
-use Rattle.cel_tree.specs.Reading as reading
+use Rattle.proto_wire.specs.Reading as reading
 use Rattle.cel_tree.specs.Trees.{in_node}
-use Rattle.cel_tree.specs.private.Values.{ValuesFault}
-use Rattle.cel_tree.proofs.Readers.{values_fault}
+use Rattle.proto_wire.specs.private.Values.{ValuesFault}
+use Rattle.proto_wire.proofs.Readers.{values_fault}
 use Rattle.cel_read.specs.Places.{OwnFault, too_deep, too_many, of_message, TreeFaultAt, SomeFaultAt, MapFaultAt, of_payload, of_value, CheckedWrongAt, no_expr, in_expr, in_types, in_refs, CheckedFaultAt, of_fields, in_fields, ExprFaultAt}
 use Rattle.cel_read.proofs.Counting.{TreeFails, SomeFails, node_fails, one_there}
 
@@ -47,10 +47,8 @@ map_fails ValueFault parts path e (of_value read readable (id, value, at, bad, n
 checked_wrong : (fs : List Wire) (path : Path) (e : Refusal) → CheckedWrongAt fs path e
     → ValuesFault CheckedLacks CheckedWrong fs e
 checked_wrong fs path e (no_expr none is at) = inl (none, is)
-checked_wrong fs path e (in_expr inner there bad begins) = elim (tree_fails tree_depth most_nodes _ inner e bad) [
-  | inl own ↦ inr (in_tree there own)
-  | inr many ↦ inr (in_nodes there many)
-]
+checked_wrong fs path e (in_expr inner there bad begins) =
+    inr (in_expression (there, tree_fails tree_depth most_nodes _ inner e bad))
 checked_wrong fs path e (in_types inner bad begins) = inr (messages.in_types (map_fails _ _ inner e bad))
 checked_wrong fs path e (in_refs inner bad begins) = inr (messages.in_refs (map_fails _ _ inner e bad))
 

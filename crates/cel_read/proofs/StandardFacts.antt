@@ -1,6 +1,6 @@
 -- Messages as cel-go 0.18 and Go's encoder write them, byte by byte, and what they say, so that a wrong rule
 -- in the specs does not check.
-use Rattle.std.proofs.Common.{◌≡◌, ℕ, suc, ◌+◌, ◌*◌, ◌<◌, ℤ, pos, negsuc, Bool, true, false, ◌&&◌, T, ltb, List, [], ◌∷◌, ◌++◌, None, codes, length, ltb→lt, refl, sym, ap, ap₂, subst, arith}
+use Rattle.std.proofs.Common.{◌≡◌, inl, ℕ, suc, ◌+◌, ◌*◌, ◌<◌, ℤ, pos, negsuc, Bool, true, false, ◌&&◌, T, ltb, List, [], ◌∷◌, ◌++◌, None, codes, length, ltb→lt, refl, sym, ap, ap₂, subst, arith}
 use Rattle.std.specs.Str.{IsUtf8, chars}
 use Rattle.std.proofs.lemmas.Str.{IsUtf8-nil}
 use Rattle.std.specs.Ordering.{int_cmp}
@@ -20,9 +20,9 @@ use Rattle.cel_value.specs.Values as values
 use Rattle.cel_value.specs.declared.cel_type.KeyType.TheVariants as keys
 use Rattle.cel_tree.specs.Checked.{CelChecked, CelReference, CelTypeEntry, of_type, unsupported_type}
 use Rattle.cel_tree.specs.Constants.{IsConstant, ConstantFault}
-use Rattle.cel_tree.specs.Message.{IsChecked, CheckedFault, in_tree}
+use Rattle.cel_tree.specs.Message.{IsChecked, CheckedFault, in_expression}
 use Rattle.cel_tree.specs.Nodes.{EntryNode, Node, IsNode, call_node, constant_node, ident_node, list_node, loop_node, map_node, select_node}
-use Rattle.cel_tree.specs.Reading.{lacking, in_values}
+use Rattle.proto_wire.specs.Reading.{lacking, in_values}
 use Rattle.cel_tree.specs.References.{IsReference}
 use Rattle.cel_tree.specs.Tree.{CelTree, call, constant, ident, no_target, no_trees, select, tree}
 use Rattle.cel_tree.specs.Trees.{IsTree, in_node, node_count}
@@ -512,14 +512,8 @@ nodes = record {
         loop_fields,
         (merges loop_fields tt, refl),
         (
-          record { iter_var = i_text.0; accu_var = result_text.0; iter_var2 = IsUtf8-nil },
-          record {
-            iter_range = λ e. cc;
-            accu_init = λ e. cc;
-            loop_condition = λ e. cc;
-            loop_step = λ e. cc;
-            result = λ e. cc;
-          },
+          (i_text.0, (result_text.0, (IsUtf8-nil, tt))),
+          (λ e. cc, (λ e. cc, (λ e. cc, (λ e. cc, (λ e. cc, tt))))),
           ap₂ loop (sym i_text.1) (sym result_text.1),
         ),
       ),
@@ -765,5 +759,7 @@ checked_is = (
 pub no_kind : CheckedFault ((0x22 ∷ 0x02 ∷ 0x10 ∷ 0x01 ∷ []) ∷ []) Missing
 no_kind =
     in_values (field 4 (len (0x10 ∷ 0x01 ∷ [])) ∷ []) (merges (field 4 (len (0x10 ∷ 0x01 ∷ [])) ∷ []) tt)
-    (in_tree (λ e. cc)
-    (in_node (lacking (field 2 (varint 1) ∷ []) (merges (field 2 (varint 1) ∷ []) tt, refl) refl refl)))
+    (in_expression (
+      λ e. cc,
+      inl (in_node (lacking (field 2 (varint 1) ∷ []) (merges (field 2 (varint 1) ∷ []) tt, refl) refl refl)),
+    ))

@@ -7,32 +7,32 @@ use Rattle.proto_wire.specs.Values.{payloads, uint32_at}
 use Rattle.proto_wire.specs.declared.refusal.Refusal.{Refusal}
 use Rattle.proto_wire.specs.declared.refusal.Refusal.TheVariants.{OutOfRange, TooLarge}
 use Rattle.cel_tree.specs.Checked.{CelTypeEntry, dyn_type, unsupported_type}
-use Rattle.cel_tree.specs.Reading.{LacksNothing, OneofSays, Never, OneofFault}
-use Rattle.cel_tree.specs.private.Values.{ValuesFault}
+use Rattle.proto_wire.specs.Reading.{Never, OneofSays, OneofFault}
+use Rattle.proto_wire.specs.private.Values.{ValuesFault}
 use Rattle.cel_tree.specs.TypeEntries.{list_entry, map_entry, primitive_of, TypeNode, plain, list_of, map_of, type_kinds, type_keys, list_type_field, map_type_field, list_type_keys, map_type_keys, ListTypeSays, ListTypeWrong, MapTypeSays, MapTypeWrong, TypeSays, TypeFails, IsOfOtherKind, IsTypeNode, TypeNodeFault, MeansEntry, IsTypeEntry, in_type, in_inner, TypeEntryFault}
 use Rattle.cel_read.specs.private.InnerTypes.{HoldsFault}
 use Rattle.cel_tree.specs.declared.kinds.TypeKind.{TypeKind}
 use Rattle.cel_tree.specs.declared.kinds.TypeKind.TheVariants as kinds
 use Rattle.cel_read.proofs.Basics.{nil_or_not}
 use Rattle.cel_read.proofs.InnerLaws.{inner_fault, inner_inside, inner_holds}
-use Rattle.cel_read.proofs.ReadingLaws.{reads_total, reads_disjoint, reads_unique, oneof_unique}
+use Rattle.proto_wire.proofs.ReadingLaws.{reads_total, reads_disjoint, reads_unique, oneof_unique}
 
 -- ---- one message
 
-list_total : (fs : List Wire) → ((node : TypeNode) × ListTypeSays fs node) ⊎ ((e : Refusal) × ValuesFault LacksNothing ListTypeWrong fs e)
+list_total : (fs : List Wire) → ((node : TypeNode) × ListTypeSays fs node) ⊎ ((e : Refusal) × ValuesFault Never ListTypeWrong fs e)
 list_total fs = elim (nil_or_not (payloads list_type_field.elem_type fs)) [
   | inl none ↦ inr (OutOfRange, inr (none, refl))
   | inr some ↦ inl (list_of (payloads list_type_field.elem_type fs), (some, refl))
 ]
 
-list_disjoint : (fs : List Wire) (node : TypeNode) (e : Refusal) → ListTypeSays fs node → ValuesFault LacksNothing ListTypeWrong fs e → ⊥
+list_disjoint : (fs : List Wire) (node : TypeNode) (e : Refusal) → ListTypeSays fs node → ValuesFault Never ListTypeWrong fs e → ⊥
 list_disjoint fs node e says (inl none) = none.0
 list_disjoint fs node e says (inr bad) = says.0 bad.0
 
 list_unique : (fs : List Wire) (a b : TypeNode) → ListTypeSays fs a → ListTypeSays fs b → a ≡ b
 list_unique fs a b x y = x.1 ∙ sym y.1
 
-map_total : (fs : List Wire) → ((node : TypeNode) × MapTypeSays fs node) ⊎ ((e : Refusal) × ValuesFault LacksNothing MapTypeWrong fs e)
+map_total : (fs : List Wire) → ((node : TypeNode) × MapTypeSays fs node) ⊎ ((e : Refusal) × ValuesFault Never MapTypeWrong fs e)
 map_total fs = elim (nil_or_not (payloads map_type_field.key_type fs)) [
   | inl none ↦ inr (OutOfRange, inr (inl none, refl))
   | inr key ↦ elim (nil_or_not (payloads map_type_field.value_type fs)) [
@@ -41,7 +41,7 @@ map_total fs = elim (nil_or_not (payloads map_type_field.key_type fs)) [
   ]
 ]
 
-map_disjoint : (fs : List Wire) (node : TypeNode) (e : Refusal) → MapTypeSays fs node → ValuesFault LacksNothing MapTypeWrong fs e → ⊥
+map_disjoint : (fs : List Wire) (node : TypeNode) (e : Refusal) → MapTypeSays fs node → ValuesFault Never MapTypeWrong fs e → ⊥
 map_disjoint fs node e says (inl none) = none.0
 map_disjoint fs node e says (inr (inl none, is)) = says.0 none
 map_disjoint fs node e says (inr (inr none, is)) = says.1 none
@@ -60,16 +60,16 @@ kind_total kinds.Primitive n run = elim (primitive_total (primitive_of (uint32_a
   | inl (entry, at) ↦ inl (plain entry, (entry, at, refl))
   | inr none ↦ inr (OutOfRange, (none, refl))
 ]
-kind_total kinds.List n run = reads_total list_type_keys ListTypeSays LacksNothing ListTypeWrong list_total (payloads n run)
-kind_total kinds.Map n run = reads_total map_type_keys MapTypeSays LacksNothing MapTypeWrong map_total (payloads n run)
+kind_total kinds.List n run = reads_total list_type_keys ListTypeSays Never ListTypeWrong list_total (payloads n run)
+kind_total kinds.Map n run = reads_total map_type_keys MapTypeSays Never MapTypeWrong map_total (payloads n run)
 
 kind_disjoint : (kind : TypeKind) (n : ℕ) (run : List Wire) (node : TypeNode) (e : Refusal)
     → TypeSays kind n run node → TypeFails kind n run e → ⊥
 kind_disjoint kinds.Dyn n run node e says bad = bad
 kind_disjoint kinds.Primitive n run node e (entry, at, is) (none, out) =
     let clash : None ≡ Some entry = sym none ∙ at in absurd cc
-kind_disjoint kinds.List n run node e says bad = reads_disjoint list_type_keys ListTypeSays LacksNothing ListTypeWrong list_disjoint (payloads n run) node e says bad
-kind_disjoint kinds.Map n run node e says bad = reads_disjoint map_type_keys MapTypeSays LacksNothing MapTypeWrong map_disjoint (payloads n run) node e says bad
+kind_disjoint kinds.List n run node e says bad = reads_disjoint list_type_keys ListTypeSays Never ListTypeWrong list_disjoint (payloads n run) node e says bad
+kind_disjoint kinds.Map n run node e says bad = reads_disjoint map_type_keys MapTypeSays Never MapTypeWrong map_disjoint (payloads n run) node e says bad
 
 kind_unique : (kind : TypeKind) (n : ℕ) (run : List Wire) (a b : TypeNode)
     → TypeSays kind n run a → TypeSays kind n run b → a ≡ b
@@ -82,7 +82,7 @@ kind_unique kinds.List n run a b x y = reads_unique list_type_keys ListTypeSays 
 kind_unique kinds.Map n run a b x y = reads_unique map_type_keys MapTypeSays map_unique (payloads n run) a b x y
 
 fields_total : (fs : List Wire) → ((node : TypeNode) × OneofSays type_kinds IsOfOtherKind TypeSays fs node)
-    ⊎ ((e : Refusal) × ValuesFault LacksNothing (OneofFault type_kinds Never TypeFails) fs e)
+    ⊎ ((e : Refusal) × ValuesFault Never (OneofFault type_kinds Never TypeFails) fs e)
 fields_total fs = elim (last_number (keys_of type_kinds) fs) as (λ o.
     ((node : TypeNode) × MatchOption o (IsOfOtherKind node) (λ n. MatchOption (member_in type_kinds n) (IsOfOtherKind node)
     (λ m. TypeSays m n (member_run (keys_of type_kinds) fs) node)))
@@ -101,7 +101,7 @@ fields_total fs = elim (last_number (keys_of type_kinds) fs) as (λ o.
     ]
 
 fields_disjoint : (fs : List Wire) (node : TypeNode) (e : Refusal) → OneofSays type_kinds IsOfOtherKind TypeSays fs node
-    → ValuesFault LacksNothing (OneofFault type_kinds Never TypeFails) fs e → ⊥
+    → ValuesFault Never (OneofFault type_kinds Never TypeFails) fs e → ⊥
 fields_disjoint fs node e says (inl none) = none.0
 fields_disjoint fs node e says (inr bad) = elim (last_number (keys_of type_kinds) fs) as (λ o.
     MatchOption o (IsOfOtherKind node) (λ n. MatchOption (member_in type_kinds n) (IsOfOtherKind node)
@@ -117,10 +117,10 @@ fields_disjoint fs node e says (inr bad) = elim (last_number (keys_of type_kinds
     ] says bad
 
 node_total : (parts : List (List ℕ)) → ((node : TypeNode) × IsTypeNode parts node) ⊎ ((e : Refusal) × TypeNodeFault parts e)
-node_total = reads_total type_keys (OneofSays type_kinds IsOfOtherKind TypeSays) LacksNothing (OneofFault type_kinds Never TypeFails) fields_total
+node_total = reads_total type_keys (OneofSays type_kinds IsOfOtherKind TypeSays) Never (OneofFault type_kinds Never TypeFails) fields_total
 
 node_disjoint : (parts : List (List ℕ)) (node : TypeNode) (e : Refusal) → IsTypeNode parts node → TypeNodeFault parts e → ⊥
-node_disjoint = reads_disjoint type_keys (OneofSays type_kinds IsOfOtherKind TypeSays) LacksNothing (OneofFault type_kinds Never TypeFails) fields_disjoint
+node_disjoint = reads_disjoint type_keys (OneofSays type_kinds IsOfOtherKind TypeSays) Never (OneofFault type_kinds Never TypeFails) fields_disjoint
 
 node_unique : (parts : List (List ℕ)) (a b : TypeNode) → IsTypeNode parts a → IsTypeNode parts b → a ≡ b
 node_unique = reads_unique type_keys (OneofSays type_kinds IsOfOtherKind TypeSays)

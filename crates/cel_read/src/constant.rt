@@ -6,8 +6,8 @@ ghost use Rattle.proto_wire.specs.Merge.{parts_view};
 ghost use Rattle.proto_wire.specs.Refusal.{MemoryOr};
 ghost use Rattle.proto_wire.specs.declared.refusal.Refusal.TheVariants.{Missing, Unsupported};
 ghost use Rattle.cel_tree.specs.Constants.{constants, constant_keys, ConstantSays, ConstantFails, IsConstant, ConstantFault};
-ghost use Rattle.cel_tree.specs.Reading.{OneofSays, Never, LacksMember, IsUnsupported, OneofFault};
-ghost use Rattle.cel_tree.specs.private.Values.{ValuesFault};
+ghost use Rattle.proto_wire.specs.Reading.{OneofSays, Never, LacksMember, IsUnsupported, OneofFault};
+ghost use Rattle.proto_wire.specs.private.Values.{ValuesFault};
 ghost use Rattle.proto_wire.specs.Oneof.{last_number, member_in};
 ghost use Rattle.cel_tree.specs.View.{constant_view};
 

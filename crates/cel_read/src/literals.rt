@@ -1,14 +1,15 @@
 //! The messages CreateList, CreateStruct and its Entry, without the expressions inside them.
 
 ghost use Rattle.std.specs.Prelude.{◌≡◌, ◌≢◌, ℕ, List, [], true, false, Some, IfOk, IfErr, OnOk, MatchOption, Contains, map};
+ghost use Rattle.std.specs.List.{AllZip};
 ghost use Rattle.proto_wire.specs.Fields.{field_view};
 ghost use Rattle.proto_wire.specs.Merge.{parts_view};
 ghost use Rattle.proto_wire.specs.Refusal.{MemoryOr};
 ghost use Rattle.proto_wire.specs.Values.{has_field, bool_at, bytes_at, payloads};
 ghost use Rattle.proto_wire.specs.declared.refusal.Refusal.TheVariants.{Missing, Unsupported};
-ghost use Rattle.cel_tree.specs.Nodes.{list_field, list_keys, ListSays, ListWrong, entry_field, key_members, EntrySays, EntryLacks, EntryWrong, IsMapEntry, MapEntryFault, AreEntries, struct_field, struct_keys, StructSays, StructWrong};
-ghost use Rattle.cel_tree.specs.Reading.{Reads, ReadFault, LacksNothing};
-ghost use Rattle.cel_tree.specs.private.Values.{ValuesFault};
+ghost use Rattle.cel_tree.specs.Nodes.{list_field, list_keys, ListSays, ListWrong, entry_field, key_members, EntrySays, EntryLacks, EntryWrong, IsMapEntry, MapEntryFault, struct_field, struct_keys, StructSays, StructWrong};
+ghost use Rattle.proto_wire.specs.Reading.{Reads, ReadFault, Never};
+ghost use Rattle.proto_wire.specs.private.Values.{ValuesFault};
 ghost use Rattle.proto_wire.specs.Oneof.{last_number};
 ghost use Rattle.cel_read.specs.private.NodeViews.{node_view};
 ghost use Rattle.cel_read.specs.private.EntryViews.{entry_node_view, entry_nodes_view};
@@ -55,7 +56,7 @@ static ENTRY_KEY: [Key; 2] = keys![Len FIELD_KEY, Len MAP_KEY];
 /// Reads a CreateList from its parts.
 pub(crate) fn read_list<'a>(alloc: Global, parts: &[&'a [u8]]) -> Result<Node<'a>, Refusal>
     ensures found { IfOk result (λ node. Reads list_keys ListSays (parts_view parts.now) (node_view node)) }
-    ensures fault { IfErr result (MemoryOr (ReadFault list_keys LacksNothing ListWrong (parts_view parts.now))) }
+    ensures fault { IfErr result (MemoryOr (ReadFault list_keys Never ListWrong (parts_view parts.now))) }
 {
     let fields = read_message(alloc, parts, &LIST)?;
     list_of(alloc, &fields)
@@ -64,7 +65,7 @@ pub(crate) fn read_list<'a>(alloc: Global, parts: &[&'a [u8]]) -> Result<Node<'a
 /// The node that the fields of a CreateList mean.
 fn list_of<'a>(alloc: Global, fields: &[Field<'a>]) -> Result<Node<'a>, Refusal>
     ensures found { IfOk result (λ node. ListSays (map field_view fields.now) (node_view node)) }
-    ensures fault { IfErr result (MemoryOr (ValuesFault LacksNothing ListWrong (map field_view fields.now))) }
+    ensures fault { IfErr result (MemoryOr (ValuesFault Never ListWrong (map field_view fields.now))) }
 {
     refuse_optional_elements(fields)?;
     Ok(Node::List(payloads_of(alloc, fields, ELEMENTS)?))
@@ -85,7 +86,7 @@ fn refuse_optional_elements(fields: &[Field<'_>]) -> Result<(), Refusal>
 /// Reads a CreateStruct from its parts.
 pub(crate) fn read_struct<'a>(alloc: Global, parts: &[&'a [u8]]) -> Result<Node<'a>, Refusal>
     ensures found { IfOk result (λ node. Reads struct_keys StructSays (parts_view parts.now) (node_view node)) }
-    ensures fault { IfErr result (MemoryOr (ReadFault struct_keys LacksNothing StructWrong (parts_view parts.now))) }
+    ensures fault { IfErr result (MemoryOr (ReadFault struct_keys Never StructWrong (parts_view parts.now))) }
 {
     let fields = read_message(alloc, parts, &STRUCT)?;
     struct_of(alloc, &fields)
@@ -94,7 +95,7 @@ pub(crate) fn read_struct<'a>(alloc: Global, parts: &[&'a [u8]]) -> Result<Node<
 /// The node that the fields of a CreateStruct mean.
 fn struct_of<'a>(alloc: Global, fields: &[Field<'a>]) -> Result<Node<'a>, Refusal>
     ensures found { IfOk result (λ node. StructSays (map field_view fields.now) (node_view node)) }
-    ensures fault { IfErr result (MemoryOr (ValuesFault LacksNothing StructWrong (map field_view fields.now))) }
+    ensures fault { IfErr result (MemoryOr (ValuesFault Never StructWrong (map field_view fields.now))) }
 {
     refuse_message(fields)?;
     Ok(Node::Map(entries_of(alloc, fields)?))
@@ -103,7 +104,7 @@ fn struct_of<'a>(alloc: Global, fields: &[Field<'a>]) -> Result<Node<'a>, Refusa
 /// The entries that the fields of a CreateStruct mean.
 fn entries_of<'a>(alloc: Global, fields: &[Field<'a>]) -> Result<Vec<EntryNode<'a>>, Refusal>
     ensures found { IfOk result (λ entries.
-        AreEntries (payloads struct_field.entries (map field_view fields.now)) (entry_nodes_view entries.items)) }
+        AllZip IsMapEntry (payloads struct_field.entries (map field_view fields.now)) (entry_nodes_view entries.items)) }
     ensures fault { IfErr result (MemoryOr (λ e. (payload : List ℕ)
         × Contains (payloads struct_field.entries (map field_view fields.now)) payload × MapEntryFault payload e)) }
 {
@@ -125,7 +126,7 @@ fn refuse_message(fields: &[Field<'_>]) -> Result<(), Refusal>
 
 /// Reads the entries of a map literal, one from each payload.
 fn read_entries<'a>(alloc: Global, payloads: &[&'a [u8]]) -> Result<Vec<EntryNode<'a>>, Refusal>
-    ensures found { IfOk result (λ entries. AreEntries (parts_view payloads.now) (entry_nodes_view entries.items)) }
+    ensures found { IfOk result (λ entries. AllZip IsMapEntry (parts_view payloads.now) (entry_nodes_view entries.items)) }
     ensures fault { IfErr result (MemoryOr (λ e.
         (payload : List ℕ) × Contains (parts_view payloads.now) payload × MapEntryFault payload e)) }
 {

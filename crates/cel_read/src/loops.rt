@@ -1,14 +1,14 @@
 //! The message Comprehension, without the expressions inside it.
 
-ghost use Rattle.std.specs.Prelude.{◌≡◌, IfOk, IfErr, OnOk, map};
+ghost use Rattle.std.specs.Prelude.{◌≡◌, [], IfOk, IfErr, OnOk, map};
 ghost use Rattle.proto_wire.specs.Fields.{field_view};
-ghost use Rattle.proto_wire.specs.Merge.{parts_view};
+ghost use Rattle.proto_wire.specs.Merge.{parts_view, SomeOf};
 ghost use Rattle.proto_wire.specs.Refusal.{MemoryOr};
 ghost use Rattle.proto_wire.specs.Values.{payloads};
 ghost use Rattle.proto_wire.specs.declared.refusal.Refusal.TheVariants.{Missing};
-ghost use Rattle.cel_tree.specs.Nodes.{loop_field, loop_keys, NamesRead, PartsThere, LacksPart, LoopSays, LoopLacks, LoopWrong};
-ghost use Rattle.cel_tree.specs.Reading.{Reads, ReadFault};
-ghost use Rattle.cel_tree.specs.private.Values.{ValuesFault};
+ghost use Rattle.cel_tree.specs.Nodes.{loop_field, loop_keys, NamesRead, PartsThere, loop_parts, LoopSays, LoopLacks, LoopWrong};
+ghost use Rattle.proto_wire.specs.Reading.{Reads, ReadFault};
+ghost use Rattle.proto_wire.specs.private.Values.{ValuesFault};
 ghost use Rattle.cel_read.specs.private.NodeViews.{node_view};
 
 use crate::fields::{name_at, two_payloads_of};
@@ -36,8 +36,8 @@ const RESULT: u32 = 7;
 const ITER_VAR2: u32 = 8;
 
 static COMPREHENSION: [Key; 8] = keys![
-    Len ITER_VAR, Len ITER_RANGE, Len ACCU_VAR, Len ACCU_INIT, Len LOOP_CONDITION, Len LOOP_STEP,
-    Len RESULT, Len ITER_VAR2
+    Len ITER_VAR, Len ACCU_VAR, Len ITER_VAR2, Len ITER_RANGE, Len ACCU_INIT, Len LOOP_CONDITION,
+    Len LOOP_STEP, Len RESULT
 ];
 
 /// Reads a Comprehension from its parts.
@@ -103,7 +103,8 @@ fn require_names(fields: &[Field<'_>]) -> Result<(), Refusal>
 /// Refuses a comprehension that lacks a part.
 fn require_parts(fields: &[Field<'_>]) -> Result<(), Refusal>
     ensures found { OnOk result (PartsThere (map field_view fields.now)) }
-    ensures fault { IfErr result (λ e. LacksPart (map field_view fields.now) × (e ≡ Missing)) }
+    ensures fault { IfErr result (λ e.
+        SomeOf (λ n. payloads n (map field_view fields.now) ≡ []) loop_parts × (e ≡ Missing)) }
 {
     require_payload(fields, ITER_RANGE)?;
     require_payload(fields, ACCU_INIT)?;

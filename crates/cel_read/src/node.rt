@@ -7,8 +7,8 @@ ghost use Rattle.proto_wire.specs.Refusal.{MemoryOr};
 ghost use Rattle.proto_wire.specs.declared.refusal.Refusal.TheVariants.{Missing, Unsupported};
 ghost use Rattle.cel_value.specs.Types.{IsInt64};
 ghost use Rattle.cel_tree.specs.Nodes.{node_kinds, kind_keys, KindSays, KindFault, MemberSays, MemberFails, NodeSays, IsNode, NodeFault};
-ghost use Rattle.cel_tree.specs.Reading.{LacksMember, IsUnsupported, OneofFault};
-ghost use Rattle.cel_tree.specs.private.Values.{ValuesFault};
+ghost use Rattle.proto_wire.specs.Reading.{LacksMember, IsUnsupported, OneofFault};
+ghost use Rattle.proto_wire.specs.private.Values.{ValuesFault};
 ghost use Rattle.proto_wire.specs.Oneof.{last_number, member_in, member_run};
 ghost use Rattle.cel_read.specs.private.NodeViews.{node_view, numbered_view};
 

@@ -4,9 +4,10 @@ ghost use Rattle.std.specs.Prelude.{IfOk, IfErr, map};
 ghost use Rattle.proto_wire.specs.Fields.{field_view};
 ghost use Rattle.proto_wire.specs.Merge.{parts_view};
 ghost use Rattle.proto_wire.specs.Refusal.{MemoryOr};
-ghost use Rattle.cel_tree.specs.Nodes.{ident_keys, IdentSays, IdentWrong, select_keys, SelectSays, SelectLacks, SelectWrong, call_keys, CallSays, CallWrong};
-ghost use Rattle.cel_tree.specs.Reading.{Reads, ReadFault, LacksNothing};
-ghost use Rattle.cel_tree.specs.private.Values.{ValuesFault};
+ghost use Rattle.proto_wire.specs.Values.{StringFault};
+ghost use Rattle.cel_tree.specs.Nodes.{ident_keys, IdentSays, select_keys, SelectSays, SelectLacks, call_keys, CallSays, ident_field, select_field, call_field};
+ghost use Rattle.proto_wire.specs.Reading.{Reads, ReadFault, Never};
+ghost use Rattle.proto_wire.specs.private.Values.{ValuesFault};
 ghost use Rattle.cel_read.specs.private.NodeViews.{node_view};
 
 use crate::fields::{name_at, two_payloads_of};
@@ -43,7 +44,7 @@ static CALL: [Key; 3] = keys![Len TARGET, Len FUNCTION, Len ARGS];
 /// Reads an Ident from its parts.
 pub(crate) fn read_ident<'a>(alloc: Global, parts: &[&'a [u8]]) -> Result<Node<'a>, Refusal>
     ensures found { IfOk result (λ node. Reads ident_keys IdentSays (parts_view parts.now) (node_view node)) }
-    ensures fault { IfErr result (MemoryOr (ReadFault ident_keys LacksNothing IdentWrong (parts_view parts.now))) }
+    ensures fault { IfErr result (MemoryOr (ReadFault ident_keys Never (StringFault ident_field.name) (parts_view parts.now))) }
 {
     let fields = read_message(alloc, parts, &IDENT)?;
     ident_of(alloc, &fields)
@@ -52,7 +53,7 @@ pub(crate) fn read_ident<'a>(alloc: Global, parts: &[&'a [u8]]) -> Result<Node<'
 /// The node that the fields of an Ident mean.
 fn ident_of<'a>(alloc: Global, fields: &[Field<'a>]) -> Result<Node<'a>, Refusal>
     ensures found { IfOk result (λ node. IdentSays (map field_view fields.now) (node_view node)) }
-    ensures fault { IfErr result (MemoryOr (ValuesFault LacksNothing IdentWrong (map field_view fields.now))) }
+    ensures fault { IfErr result (MemoryOr (ValuesFault Never (StringFault ident_field.name) (map field_view fields.now))) }
 {
     Ok(Node::Ident(name_at(alloc, fields, NAME)?))
 }
@@ -60,7 +61,7 @@ fn ident_of<'a>(alloc: Global, fields: &[Field<'a>]) -> Result<Node<'a>, Refusal
 /// Reads a Select from its parts.
 pub(crate) fn read_select<'a>(alloc: Global, parts: &[&'a [u8]]) -> Result<Node<'a>, Refusal>
     ensures found { IfOk result (λ node. Reads select_keys SelectSays (parts_view parts.now) (node_view node)) }
-    ensures fault { IfErr result (MemoryOr (ReadFault select_keys SelectLacks SelectWrong (parts_view parts.now))) }
+    ensures fault { IfErr result (MemoryOr (ReadFault select_keys SelectLacks (StringFault select_field.field) (parts_view parts.now))) }
 {
     let fields = read_message(alloc, parts, &SELECT)?;
     select_of(alloc, &fields)
@@ -69,7 +70,7 @@ pub(crate) fn read_select<'a>(alloc: Global, parts: &[&'a [u8]]) -> Result<Node<
 /// The node that the fields of a Select mean.
 fn select_of<'a>(alloc: Global, fields: &[Field<'a>]) -> Result<Node<'a>, Refusal>
     ensures found { IfOk result (λ node. SelectSays (map field_view fields.now) (node_view node)) }
-    ensures fault { IfErr result (MemoryOr (ValuesFault SelectLacks SelectWrong (map field_view fields.now))) }
+    ensures fault { IfErr result (MemoryOr (ValuesFault SelectLacks (StringFault select_field.field) (map field_view fields.now))) }
 {
     let name = text_at(fields, FIELD)?;
     require_payload(fields, OPERAND)?;
@@ -86,7 +87,7 @@ fn select_of<'a>(alloc: Global, fields: &[Field<'a>]) -> Result<Node<'a>, Refusa
 /// Reads a Call from its parts.
 pub(crate) fn read_call<'a>(alloc: Global, parts: &[&'a [u8]]) -> Result<Node<'a>, Refusal>
     ensures found { IfOk result (λ node. Reads call_keys CallSays (parts_view parts.now) (node_view node)) }
-    ensures fault { IfErr result (MemoryOr (ReadFault call_keys LacksNothing CallWrong (parts_view parts.now))) }
+    ensures fault { IfErr result (MemoryOr (ReadFault call_keys Never (StringFault call_field.function) (parts_view parts.now))) }
 {
     let fields = read_message(alloc, parts, &CALL)?;
     call_of(alloc, &fields)
@@ -95,7 +96,7 @@ pub(crate) fn read_call<'a>(alloc: Global, parts: &[&'a [u8]]) -> Result<Node<'a
 /// The node that the fields of a Call mean.
 fn call_of<'a>(alloc: Global, fields: &[Field<'a>]) -> Result<Node<'a>, Refusal>
     ensures found { IfOk result (λ node. CallSays (map field_view fields.now) (node_view node)) }
-    ensures fault { IfErr result (MemoryOr (ValuesFault LacksNothing CallWrong (map field_view fields.now))) }
+    ensures fault { IfErr result (MemoryOr (ValuesFault Never (StringFault call_field.function) (map field_view fields.now))) }
 {
     let function = name_at(alloc, fields, FUNCTION)?;
     let (target, args) = two_payloads_of(alloc, fields, TARGET, ARGS)?;

@@ -8,9 +8,10 @@ ghost use Rattle.proto_wire.specs.Merge.{parts_view};
 ghost use Rattle.proto_wire.specs.Refusal.{MemoryOr};
 ghost use Rattle.proto_wire.specs.Values.{payloads, Utf8Fault};
 ghost use Rattle.cel_value.specs.Texts.{points_of};
-ghost use Rattle.cel_tree.specs.Reading.{LacksNothing};
-ghost use Rattle.cel_tree.specs.private.Values.{ValuesFault};
-ghost use Rattle.cel_tree.specs.References.{reference_field, ReferenceSays, ReferenceWrong, IsReference, ReferenceFault, IsValue, ValueFault};
+ghost use Rattle.proto_wire.specs.Reading.{Never, IsOptional, OptionalFault};
+ghost use Rattle.proto_wire.specs.private.Values.{ValuesFault};
+ghost use Rattle.cel_tree.specs.Constants.{IsConstant, ConstantFault};
+ghost use Rattle.cel_tree.specs.References.{reference_field, ReferenceSays, ReferenceWrong, IsReference, ReferenceFault};
 ghost use Rattle.cel_tree.specs.View.{constant_view, name_view, reference_view};
 
 use crate::constant::read_constant;
@@ -39,7 +40,7 @@ pub(crate) fn read_reference(alloc: Global, parts: &[&[u8]]) -> Result<Reference
 /// The reference that the fields mean. The ids of overloads are read, and not kept.
 fn reference_of(alloc: Global, fields: &[Field<'_>]) -> Result<Reference, Refusal>
     ensures found { IfOk result (λ reference. ReferenceSays (map field_view fields.now) (reference_view reference)) }
-    ensures fault { IfErr result (MemoryOr (ValuesFault LacksNothing ReferenceWrong (map field_view fields.now))) }
+    ensures fault { IfErr result (MemoryOr (ValuesFault Never ReferenceWrong (map field_view fields.now))) }
 {
     let name = text_at(fields, NAME)?;
     require_ids(alloc, fields)?;
@@ -61,11 +62,14 @@ fn require_ids(alloc: Global, fields: &[Field<'_>]) -> Result<(), Refusal>
 /// The value that the fields mean; none if there is no field of it.
 fn value_of(alloc: Global, fields: &[Field<'_>]) -> Result<Option<Constant>, Refusal>
     ensures found { IfOk result (λ value.
-        IsValue (payloads reference_field.value (map field_view fields.now)) (option_map constant_view value)) }
-    ensures fault { IfErr result (MemoryOr (ValueFault (payloads reference_field.value (map field_view fields.now)))) }
+        IsOptional IsConstant reference_field.value (map field_view fields.now) (option_map constant_view value)) }
+    ensures fault { IfErr result (MemoryOr (OptionalFault ConstantFault reference_field.value (map field_view fields.now))) }
 {
     let parts = payloads_of(alloc, fields, VALUE)?;
-    read_value(alloc, &parts)
+    if parts.is_empty() {
+        return Ok(None);
+    }
+    Ok(Some(read_constant(alloc, &parts)?))
 }
 
 /// A copy of a name; none if it is empty, as the names of functions are.
@@ -87,15 +91,4 @@ fn require_texts(payloads: &[&[u8]]) -> Result<(), Refusal>
         text_of(payload)?;
     }
     Ok(())
-}
-
-/// Reads a constant from its parts; none if there are no parts.
-fn read_value(alloc: Global, parts: &[&[u8]]) -> Result<Option<Constant>, Refusal>
-    ensures found { IfOk result (λ value. IsValue (parts_view parts.now) (option_map constant_view value)) }
-    ensures fault { IfErr result (MemoryOr (ValueFault (parts_view parts.now))) }
-{
-    if parts.is_empty() {
-        return Ok(None);
-    }
-    Ok(Some(read_constant(alloc, parts)?))
 }

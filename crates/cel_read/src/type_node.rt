@@ -6,8 +6,8 @@ ghost use Rattle.proto_wire.specs.Merge.{parts_view};
 ghost use Rattle.proto_wire.specs.Refusal.{MemoryOr};
 ghost use Rattle.proto_wire.specs.Values.{payloads};
 ghost use Rattle.proto_wire.specs.declared.refusal.Refusal.TheVariants.{OutOfRange};
-ghost use Rattle.cel_tree.specs.Reading.{Reads, ReadFault, LacksNothing, OneofSays, Never, OneofFault};
-ghost use Rattle.cel_tree.specs.private.Values.{ValuesFault};
+ghost use Rattle.proto_wire.specs.Reading.{Reads, ReadFault, Never, OneofSays, OneofFault};
+ghost use Rattle.proto_wire.specs.private.Values.{ValuesFault};
 ghost use Rattle.proto_wire.specs.Oneof.{last_number, member_in};
 ghost use Rattle.cel_tree.specs.TypeEntries.{type_kinds, type_keys, list_type_keys, map_type_keys, primitive_of, ListTypeSays, ListTypeWrong, MapTypeSays, MapTypeWrong, TypeSays, TypeFails, IsOfOtherKind, IsTypeNode, TypeNodeFault};
 ghost use Rattle.cel_tree.specs.View.{type_entry_view};
@@ -95,7 +95,7 @@ fn type_of<'a>(alloc: Global, fields: &[Field<'a>]) -> Result<TypeNode<'a>, Refu
     ensures found { IfOk result (λ node.
         OneofSays type_kinds IsOfOtherKind TypeSays (map field_view fields.now) (type_node_view node)) }
     ensures fault { IfErr result (MemoryOr
-        (ValuesFault LacksNothing (OneofFault type_kinds Never TypeFails) (map field_view fields.now))) }
+        (ValuesFault Never (OneofFault type_kinds Never TypeFails) (map field_view fields.now))) }
 {
     let Some(last) = last_kind(fields) else {
         return Ok(TypeNode::Plain(TypeEntry::Unsupported));
@@ -168,7 +168,7 @@ fn primitive(number: u32) -> Result<TypeEntry, Refusal>
 /// Reads a ListType from its parts.
 fn read_list_type<'a>(alloc: Global, parts: &[&'a [u8]]) -> Result<TypeNode<'a>, Refusal>
     ensures found { IfOk result (λ node. Reads list_type_keys ListTypeSays (parts_view parts.now) (type_node_view node)) }
-    ensures fault { IfErr result (MemoryOr (ReadFault list_type_keys LacksNothing ListTypeWrong (parts_view parts.now))) }
+    ensures fault { IfErr result (MemoryOr (ReadFault list_type_keys Never ListTypeWrong (parts_view parts.now))) }
 {
     let fields = read_message(alloc, parts, &LIST)?;
     list_type_of(alloc, &fields)
@@ -177,7 +177,7 @@ fn read_list_type<'a>(alloc: Global, parts: &[&'a [u8]]) -> Result<TypeNode<'a>,
 /// The list type that the fields mean.
 fn list_type_of<'a>(alloc: Global, fields: &[Field<'a>]) -> Result<TypeNode<'a>, Refusal>
     ensures found { IfOk result (λ node. ListTypeSays (map field_view fields.now) (type_node_view node)) }
-    ensures fault { IfErr result (MemoryOr (ValuesFault LacksNothing ListTypeWrong (map field_view fields.now))) }
+    ensures fault { IfErr result (MemoryOr (ValuesFault Never ListTypeWrong (map field_view fields.now))) }
 {
     require_type(fields, ELEM)?;
     let elem = payloads_of(alloc, fields, ELEM)?;
@@ -187,7 +187,7 @@ fn list_type_of<'a>(alloc: Global, fields: &[Field<'a>]) -> Result<TypeNode<'a>,
 /// Reads a MapType from its parts.
 fn read_map_type<'a>(alloc: Global, parts: &[&'a [u8]]) -> Result<TypeNode<'a>, Refusal>
     ensures found { IfOk result (λ node. Reads map_type_keys MapTypeSays (parts_view parts.now) (type_node_view node)) }
-    ensures fault { IfErr result (MemoryOr (ReadFault map_type_keys LacksNothing MapTypeWrong (parts_view parts.now))) }
+    ensures fault { IfErr result (MemoryOr (ReadFault map_type_keys Never MapTypeWrong (parts_view parts.now))) }
 {
     let fields = read_message(alloc, parts, &MAP)?;
     map_type_of(alloc, &fields)
@@ -196,7 +196,7 @@ fn read_map_type<'a>(alloc: Global, parts: &[&'a [u8]]) -> Result<TypeNode<'a>, 
 /// The map type that the fields mean.
 fn map_type_of<'a>(alloc: Global, fields: &[Field<'a>]) -> Result<TypeNode<'a>, Refusal>
     ensures found { IfOk result (λ node. MapTypeSays (map field_view fields.now) (type_node_view node)) }
-    ensures fault { IfErr result (MemoryOr (ValuesFault LacksNothing MapTypeWrong (map field_view fields.now))) }
+    ensures fault { IfErr result (MemoryOr (ValuesFault Never MapTypeWrong (map field_view fields.now))) }
 {
     require_type(fields, KEY)?;
     require_type(fields, VALUE)?;

@@ -1,4 +1,3 @@
-pub mod Readers
 pub mod PairFacts
 pub mod PlacedExits
 pub mod IdPlaces

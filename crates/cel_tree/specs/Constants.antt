@@ -4,13 +4,13 @@ use Rattle.std.specs.Map.{keys_of}
 use Rattle.std.specs.Str.{IsUtf8}
 use Rattle.proto_wire.specs.Fields.{Wire}
 use Rattle.proto_wire.specs.Keys.{len_key, varint_key}
-use Rattle.proto_wire.specs.Values.{bool_at, int64_at, varint_at, bytes_at, Utf8Fault}
+use Rattle.proto_wire.specs.Values.{bool_at, int64_at, varint_at, bytes_at, StringFault}
 use Rattle.proto_wire.specs.declared.field.WireType.{WireType}
 use Rattle.proto_wire.specs.declared.key.Key.{Key}
 use Rattle.proto_wire.specs.declared.refusal.Refusal.{Refusal}
 use Rattle.cel_value.specs.Texts.{points_of}
 use Rattle.cel_value.specs.Values.{CelValue, bool, int, uint, text, bytes}
-use Rattle.cel_tree.specs.Reading.{Reads, ReadFault, OneofSays, Never, LacksMember, IsUnsupported, OneofFault}
+use Rattle.proto_wire.specs.Reading.{Reads, ReadFault, OneofSays, Never, LacksMember, IsUnsupported, OneofFault}
 use Rattle.cel_tree.specs.declared.kinds.ConstantKind.{ConstantKind}
 use Rattle.cel_tree.specs.declared.kinds.ConstantKind.TheVariants as kinds
 
@@ -47,7 +47,7 @@ ConstantSays kinds.Bytes n run v = v ≡ bytes (bytes_at n run)
 
 -- a fault of the member's run: a text is not UTF-8
 abbrev pub ConstantFails : ConstantKind → ℕ → List Wire → Refusal → Type 0
-ConstantFails kinds.Text n run e = Utf8Fault (bytes_at n run) e
+ConstantFails kinds.Text n run e = StringFault n run e
 ConstantFails _ n run e = ⊥
 
 -- the parts merge to a Constant of this value

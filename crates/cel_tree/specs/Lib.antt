@@ -1,7 +1,6 @@
 pub mod Tree
 pub mod Checked
 pub mod View
-pub mod Reading
 pub mod Constants
 pub mod TypeEntries
 pub mod References

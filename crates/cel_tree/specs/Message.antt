@@ -9,7 +9,7 @@ use Rattle.proto_wire.specs.Values.{payloads}
 use Rattle.proto_wire.specs.declared.key.Key.{Key}
 use Rattle.proto_wire.specs.declared.refusal.Refusal.{Refusal}
 use Rattle.cel_tree.specs.Checked.{CelChecked}
-use Rattle.cel_tree.specs.Reading.{Reads, ReadFault}
+use Rattle.proto_wire.specs.Reading.{Reads, ReadFault, OptionalFault}
 use Rattle.cel_tree.specs.References.{IsReference, ReferenceFault}
 use Rattle.cel_tree.specs.Trees.{IsTree, TreeFault, NodesFault, node_count}
 use Rattle.cel_tree.specs.TypeEntries.{IsTypeEntry, TypeEntryFault}
@@ -44,12 +44,13 @@ pub record CheckedSays (fs : List Wire) (c : CelChecked) : Type 0 where
 abbrev pub CheckedLacks : List Wire → Type 0
 CheckedLacks fs = payloads checked_field.expr fs ≡ []
 
+-- a fault of the message of an expression, or too many nodes
+abbrev pub UncheckedFault : List (List ℕ) → Refusal → Type 0
+UncheckedFault parts e = TreeFault tree_depth parts e ⊎ NodesFault tree_depth most_nodes parts e
+
 -- a fault of a map or of the expression
 pub data CheckedWrong (fs : List Wire) (e : Refusal) : Type 0 where
-  in_tree : payloads checked_field.expr fs ≢ []
-      → TreeFault tree_depth (payloads checked_field.expr fs) e → CheckedWrong fs e
-  in_nodes : payloads checked_field.expr fs ≢ []
-      → NodesFault tree_depth most_nodes (payloads checked_field.expr fs) e → CheckedWrong fs e
+  in_expression : OptionalFault UncheckedFault checked_field.expr fs e → CheckedWrong fs e
   in_types : MapFault int64 (TypeEntryFault tree_depth) (payloads checked_field.type_map fs) e
       → CheckedWrong fs e
   in_refs : MapFault int64 ReferenceFault (payloads checked_field.reference_map fs) e
@@ -71,10 +72,6 @@ pub record IsUnchecked (parts : List (List ℕ)) (c : CelChecked) : Type 0 where
   pub few : node_count c.tree ≤ most_nodes
   pub types : c.types ≡ empty
   pub refs : c.refs ≡ empty
-
--- a fault of the message of an expression without entries
-abbrev pub UncheckedFault : List (List ℕ) → Refusal → Type 0
-UncheckedFault parts e = TreeFault tree_depth parts e ⊎ NodesFault tree_depth most_nodes parts e
 
 -- the payloads that an expression is read from: of a checked expression, or of one without entries
 pub data ExprParts : Type 0 where

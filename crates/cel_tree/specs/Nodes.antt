@@ -1,20 +1,21 @@
 -- Messages of single nodes; the messages of the expressions inside are not read:
 -- `google/api/expr/v1alpha1/syntax.proto`, Expr and the messages inside it.
 use Rattle.std.specs.Prelude.{◌≡◌, ◌≢◌, ◌⊎◌, ℕ, ℤ, Bool, true, false, List, [], ◌∷◌, ◌++◌, map, Option, Some, None, Contains}
+use Rattle.std.specs.List.{AllByRecursion, AllZip}
 use Rattle.std.specs.Map.{keys_of}
 use Rattle.std.specs.Str.{IsUtf8}
 use Rattle.proto_wire.specs.Fields.{Wire}
 use Rattle.proto_wire.specs.Keys.{len_key, varint_key}
-use Rattle.proto_wire.specs.Merge.{Merges}
+use Rattle.proto_wire.specs.Merge.{Merges, SomeOf}
 use Rattle.proto_wire.specs.Oneof.{member_run, last_number}
-use Rattle.proto_wire.specs.Values.{bool_at, int64_at, bytes_at, payloads, has_field, Utf8Fault}
+use Rattle.proto_wire.specs.Values.{bool_at, int64_at, bytes_at, payloads, has_field, StringFault}
 use Rattle.proto_wire.specs.declared.key.Key.{Key}
 use Rattle.proto_wire.specs.declared.refusal.Refusal.{Refusal}
 use Rattle.proto_wire.specs.declared.refusal.Refusal.TheVariants.{Unsupported}
 use Rattle.cel_value.specs.Texts.{points_of}
 use Rattle.cel_value.specs.Values.{CelValue}
 use Rattle.cel_tree.specs.Constants.{IsConstant, ConstantFault}
-use Rattle.cel_tree.specs.Reading.{Reads, ReadFault, LacksNothing, OneofSays, Never, LacksMember, IsUnsupported, OneofFault, IsPart, IsElement, StandsIn}
+use Rattle.proto_wire.specs.Reading.{Reads, ReadFault, Never, OneofSays, LacksMember, IsUnsupported, OneofFault, IsPart, IsElement, StandsIn}
 use Rattle.cel_tree.specs.declared.kinds.NodeKind.{NodeKind}
 use Rattle.cel_tree.specs.declared.kinds.NodeKind.TheVariants as kinds
 
@@ -95,10 +96,6 @@ abbrev pub IdentSays : List Wire → Node → Type 0
 IdentSays fs node = IsUtf8 (bytes_at ident_field.name fs)
     × (node ≡ ident_node (points_of (bytes_at ident_field.name fs)))
 
--- the name is not UTF-8
-abbrev pub IdentWrong : List Wire → Refusal → Type 0
-IdentWrong fs e = Utf8Fault (bytes_at ident_field.name fs) e
-
 -- ---- Select
 
 -- the fields of a Select
@@ -121,10 +118,6 @@ SelectSays fs node = IsUtf8 (bytes_at select_field.field fs)
 abbrev pub SelectLacks : List Wire → Type 0
 SelectLacks fs = IsUtf8 (bytes_at select_field.field fs) × (payloads select_field.operand fs ≡ [])
 
--- the name of the field is not UTF-8
-abbrev pub SelectWrong : List Wire → Refusal → Type 0
-SelectWrong fs e = Utf8Fault (bytes_at select_field.field fs) e
-
 -- ---- Call
 
 -- the fields of a Call
@@ -140,10 +133,6 @@ abbrev pub CallSays : List Wire → Node → Type 0
 CallSays fs node = IsUtf8 (bytes_at call_field.function fs)
     × (node ≡ call_node (points_of (bytes_at call_field.function fs))
     (payloads call_field.target fs) (payloads call_field.args fs))
-
--- the name of the function is not UTF-8
-abbrev pub CallWrong : List Wire → Refusal → Type 0
-CallWrong fs e = Utf8Fault (bytes_at call_field.function fs) e
 
 -- ---- CreateList
 
@@ -208,13 +197,6 @@ IsMapEntry payload entry = Reads entry_keys EntrySays (payload ∷ []) entry
 abbrev pub MapEntryFault : List ℕ → Refusal → Type 0
 MapEntryFault payload e = ReadFault entry_keys EntryLacks EntryWrong (payload ∷ []) e
 
--- the payloads are these entries, in order
-abbrev pub AreEntries : List (List ℕ) → List EntryNode → Type 0
-AreEntries [] [] = Unit {0}
-AreEntries (payload ∷ payloads) (entry ∷ entries) =
-    IsMapEntry payload entry × AreEntries payloads entries
-AreEntries _ _ = ⊥
-
 -- ---- CreateStruct
 
 -- the fields of a CreateStruct; a message_name that is not empty is not supported
@@ -228,12 +210,12 @@ struct_keys = len_key struct_field.message_name ∷ len_key struct_field.entries
 -- the fields mean the node
 abbrev pub StructSays : List Wire → Node → Type 0
 StructSays fs node = (bytes_at struct_field.message_name fs ≡ [])
-    × (entries : List EntryNode) × AreEntries (payloads struct_field.entries fs) entries
+    × (entries : List EntryNode) × AllZip IsMapEntry (payloads struct_field.entries fs) entries
     × (node ≡ map_node entries)
 
 -- a fault of the fields: a message_name that is not empty, or a fault of an entry
 pub data StructWrong (fs : List Wire) (e : Refusal) : Type 0 where
-  bad_name : Utf8Fault (bytes_at struct_field.message_name fs) e → StructWrong fs e
+  bad_name : StringFault struct_field.message_name fs e → StructWrong fs e
   of_message : bytes_at struct_field.message_name fs ≢ [] → e ≡ Unsupported → StructWrong fs e
   in_entry : (payload : List ℕ) → Contains (payloads struct_field.entries fs) payload
       → MapEntryFault payload e → StructWrong fs e
@@ -244,26 +226,26 @@ pub data StructWrong (fs : List Wire) (e : Refusal) : Type 0 where
 abbrev pub loop_field : record { iter_var : ℕ; iter_range : ℕ; accu_var : ℕ; accu_init : ℕ; loop_condition : ℕ; loop_step : ℕ; result : ℕ; iter_var2 : ℕ }
 loop_field = record { iter_var = 1; iter_range = 2; accu_var = 3; accu_init = 4; loop_condition = 5; loop_step = 6; result = 7; iter_var2 = 8 }
 
+-- its names
+abbrev pub loop_names : List ℕ
+loop_names = loop_field.iter_var ∷ loop_field.accu_var ∷ loop_field.iter_var2 ∷ []
+
+-- its expressions
+abbrev pub loop_parts : List ℕ
+loop_parts = loop_field.iter_range ∷ loop_field.accu_init ∷ loop_field.loop_condition
+    ∷ loop_field.loop_step ∷ loop_field.result ∷ []
+
 -- the keys of all fields of a Comprehension
 abbrev pub loop_keys : List Key
-loop_keys = len_key loop_field.iter_var ∷ len_key loop_field.iter_range
-    ∷ len_key loop_field.accu_var ∷ len_key loop_field.accu_init
-    ∷ len_key loop_field.loop_condition ∷ len_key loop_field.loop_step
-    ∷ len_key loop_field.result ∷ len_key loop_field.iter_var2 ∷ []
+loop_keys = map len_key (loop_names ++ loop_parts)
 
 -- the names are UTF-8
-pub record NamesRead (fs : List Wire) : Type 0 where
-  pub iter_var : IsUtf8 (bytes_at loop_field.iter_var fs)
-  pub accu_var : IsUtf8 (bytes_at loop_field.accu_var fs)
-  pub iter_var2 : IsUtf8 (bytes_at loop_field.iter_var2 fs)
+abbrev pub NamesRead : List Wire → Type 0
+NamesRead fs = AllByRecursion (λ n. IsUtf8 (bytes_at n fs)) loop_names
 
--- each part is present
-pub record PartsThere (fs : List Wire) : Type 0 where
-  pub iter_range : payloads loop_field.iter_range fs ≢ []
-  pub accu_init : payloads loop_field.accu_init fs ≢ []
-  pub loop_condition : payloads loop_field.loop_condition fs ≢ []
-  pub loop_step : payloads loop_field.loop_step fs ≢ []
-  pub result : payloads loop_field.result fs ≢ []
+-- each expression is present
+abbrev pub PartsThere : List Wire → Type 0
+PartsThere fs = AllByRecursion (λ n. payloads n fs ≢ []) loop_parts
 
 -- the names and parts in the fields
 abbrev pub loop_at : List Wire → LoopNode
@@ -282,23 +264,13 @@ loop_at fs = record {
 abbrev pub LoopSays : List Wire → Node → Type 0
 LoopSays fs node = NamesRead fs × PartsThere fs × (node ≡ loop_node (loop_at fs))
 
--- some part is absent
-pub data LacksPart (fs : List Wire) : Type 0 where
-  no_range : payloads loop_field.iter_range fs ≡ [] → LacksPart fs
-  no_init : payloads loop_field.accu_init fs ≡ [] → LacksPart fs
-  no_condition : payloads loop_field.loop_condition fs ≡ [] → LacksPart fs
-  no_step : payloads loop_field.loop_step fs ≡ [] → LacksPart fs
-  no_result : payloads loop_field.result fs ≡ [] → LacksPart fs
-
--- some part is absent; this is a fault only if all names are UTF-8
+-- some expression is absent; this is a fault only if all names are UTF-8
 abbrev pub LoopLacks : List Wire → Type 0
-LoopLacks fs = NamesRead fs × LacksPart fs
+LoopLacks fs = NamesRead fs × SomeOf (λ n. payloads n fs ≡ []) loop_parts
 
 -- a name is not UTF-8
-pub data LoopWrong (fs : List Wire) (e : Refusal) : Type 0 where
-  bad_iter_var : Utf8Fault (bytes_at loop_field.iter_var fs) e → LoopWrong fs e
-  bad_accu_var : Utf8Fault (bytes_at loop_field.accu_var fs) e → LoopWrong fs e
-  bad_second_name : Utf8Fault (bytes_at loop_field.iter_var2 fs) e → LoopWrong fs e
+abbrev pub LoopWrong : List Wire → Refusal → Type 0
+LoopWrong fs e = SomeOf (λ n. StringFault n fs e) loop_names
 
 -- ---- Expr
 
@@ -338,11 +310,12 @@ KindSays kinds.Comprehension parts node = Reads loop_keys LoopSays parts node
 -- a fault of the message of this kind
 abbrev pub KindFault : NodeKind → Parts → Refusal → Type 0
 KindFault kinds.Constant parts e = ConstantFault parts e
-KindFault kinds.Ident parts e = ReadFault ident_keys LacksNothing IdentWrong parts e
-KindFault kinds.Select parts e = ReadFault select_keys SelectLacks SelectWrong parts e
-KindFault kinds.Call parts e = ReadFault call_keys LacksNothing CallWrong parts e
-KindFault kinds.List parts e = ReadFault list_keys LacksNothing ListWrong parts e
-KindFault kinds.Struct parts e = ReadFault struct_keys LacksNothing StructWrong parts e
+KindFault kinds.Ident parts e = ReadFault ident_keys Never (StringFault ident_field.name) parts e
+KindFault kinds.Select parts e =
+    ReadFault select_keys SelectLacks (StringFault select_field.field) parts e
+KindFault kinds.Call parts e = ReadFault call_keys Never (StringFault call_field.function) parts e
+KindFault kinds.List parts e = ReadFault list_keys Never ListWrong parts e
+KindFault kinds.Struct parts e = ReadFault struct_keys Never StructWrong parts e
 KindFault kinds.Comprehension parts e = ReadFault loop_keys LoopLacks LoopWrong parts e
 
 -- the run of the member means the node
@@ -382,10 +355,7 @@ InKind kinds.List fs child = IsElement list_field.elements fs child
 InKind kinds.Struct fs child = (entry : List ℕ) × (own : List Wire)
     × Contains (payloads struct_field.entries fs) entry × Merges (entry ∷ []) own
     × InEntry own child
-InKind kinds.Comprehension fs child =
-    IsPart loop_field.iter_range fs child ⊎ IsPart loop_field.accu_init fs child
-    ⊎ IsPart loop_field.loop_condition fs child ⊎ IsPart loop_field.loop_step fs child
-    ⊎ IsPart loop_field.result fs child
+InKind kinds.Comprehension fs child = SomeOf (λ n. IsPart n fs child) loop_parts
 InKind _ fs child = ⊥
 
 -- the child is an expression inside an Expr

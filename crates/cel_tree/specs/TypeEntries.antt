@@ -10,7 +10,7 @@ use Rattle.proto_wire.specs.declared.refusal.Refusal.TheVariants.{OutOfRange, To
 use Rattle.cel_value.specs.Types.{ValueType, bool_type, int_type, uint_type, text_type, bytes_type, list_type, map_type, key_type_of}
 use Rattle.cel_value.specs.declared.cel_type.KeyType.{KeyType}
 use Rattle.cel_tree.specs.Checked.{CelTypeEntry, of_type, dyn_type, unsupported_type}
-use Rattle.cel_tree.specs.Reading.{Reads, ReadFault, LacksNothing, OneofSays, Never, OneofFault, IsPart, StandsIn}
+use Rattle.proto_wire.specs.Reading.{Reads, ReadFault, Never, OneofSays, OneofFault, IsPart, StandsIn}
 use Rattle.cel_tree.specs.declared.kinds.TypeKind.{TypeKind}
 use Rattle.cel_tree.specs.declared.kinds.TypeKind.TheVariants as kinds
 
@@ -114,8 +114,8 @@ TypeSays kinds.Map n run node = Reads map_type_keys MapTypeSays (payloads n run)
 abbrev pub TypeFails : TypeKind → ℕ → List Wire → Refusal → Type 0
 TypeFails kinds.Primitive n run e = (primitive_of (uint32_at n run) ≡ None) × (e ≡ OutOfRange)
 TypeFails kinds.List n run e =
-    ReadFault list_type_keys LacksNothing ListTypeWrong (payloads n run) e
-TypeFails kinds.Map n run e = ReadFault map_type_keys LacksNothing MapTypeWrong (payloads n run) e
+    ReadFault list_type_keys Never ListTypeWrong (payloads n run) e
+TypeFails kinds.Map n run e = ReadFault map_type_keys Never MapTypeWrong (payloads n run) e
 TypeFails _ n run e = ⊥
 
 -- the unsupported type: of a Type without a member, or with another member, whose payload is not
@@ -129,7 +129,7 @@ IsTypeNode = Reads type_keys (OneofSays type_kinds IsOfOtherKind TypeSays)
 
 -- a fault of a Type's own message
 abbrev pub TypeNodeFault : List (List ℕ) → Refusal → Type 0
-TypeNodeFault = ReadFault type_keys LacksNothing (OneofFault type_kinds Never TypeFails)
+TypeNodeFault = ReadFault type_keys Never (OneofFault type_kinds Never TypeFails)
 
 -- ---- the types inside a Type's message, even if the message has other faults
 

@@ -1,4 +1,3 @@
 -- Definitions that only clauses of private functions and proofs use.
 pub mod Places
-pub mod Values
 pub mod TreeViews

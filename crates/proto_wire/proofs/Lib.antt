@@ -10,6 +10,10 @@ pub mod Exits
 pub mod Places
 pub mod PlaceExits
 pub mod Basics
+pub mod OptionalLaws
+pub mod Readers
+pub mod ReadingLaws
+pub mod Standing
 pub mod MapLemmas
 pub mod MapLaws
 pub mod MapOrder

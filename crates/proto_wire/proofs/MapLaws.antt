@@ -2,7 +2,7 @@
 use Rattle.std.proofs.Common.{◌≡◌, ℕ, ◌<◌, ◌⊎◌, inl, inr, List, [], ◌∷◌, arith, refl, sym, ap, subst, ◌∙◌}
 use Rattle.proto_wire.specs.Fields.{Wire}
 use Rattle.proto_wire.specs.Values.{payloads, bytes_at}
-use Rattle.proto_wire.specs.Maps.{KeyKind, text, int64, Entry, key_field, value_field, key_at, entry_keys, KeyReads, IsEntry, AreEntries, EntryFault, entry_fields, entry_key, SomeEntryFault, Readable}
+use Rattle.proto_wire.specs.Maps.{KeyKind, text, int64, Entry, entry_field, key_at, entry_keys, KeyReads, IsEntry, AreEntries, EntryFault, entry_fields, entry_key, SomeEntryFault, Readable}
 use Rattle.proto_wire.specs.declared.refusal.Refusal.{Refusal}
 use Rattle.proto_wire.specs.declared.refusal.Refusal.TheVariants.{BadText}
 use Rattle.proto_wire.proofs.Basics.{contains_first, contains_later, contains_cases, utf8_total}
@@ -11,7 +11,7 @@ use Rattle.proto_wire.proofs.Messages.{message_total, message_disjoint}
 
 -- a key reads or not
 key_total : (kind : KeyKind) (fs : List Wire) → KeyReads kind fs ⊎ ¬ (KeyReads kind fs)
-key_total text fs = utf8_total (bytes_at key_field fs)
+key_total text fs = utf8_total (bytes_at entry_field.key fs)
 key_total int64 fs = inl tt
 
 module _ (kind : KeyKind) where
@@ -25,7 +25,7 @@ module _ (kind : KeyKind) where
         | inl message ↦ elim (key_total kind message.0) [
           | inl reads ↦
               inl (
-                (key_at kind message.0, payloads value_field message.0),
+                (key_at kind message.0, payloads entry_field.value message.0),
                 (message.0, message.1, reads, refl),
               )
           | inr bad ↦ inr (BadText, entry_key message.0 message.1.0 bad refl)
@@ -60,7 +60,7 @@ module _ (kind : KeyKind) where
       → a ≡ b
   entry_unique part a b (fs, message, reads, is) (gs, also, reads', is') =
       let same : fs ≡ gs = merges_unique (part ∷ []) fs gs message.0 also.0 in
-      let made : List Wire → Entry kind = λ xs. (key_at kind xs, payloads value_field xs) in
+      let made : List Wire → Entry kind = λ xs. (key_at kind xs, payloads entry_field.value xs) in
       is ∙ ap made same ∙ sym is'
 
   -- entries have no fault

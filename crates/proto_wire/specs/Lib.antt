@@ -7,6 +7,7 @@ pub mod Shortest
 pub mod Merge
 pub mod Refusal
 pub mod Messages
+pub mod Reading
 pub mod Places
 pub mod Maps
 pub mod private

@@ -35,27 +35,23 @@ abbrev pub key_cmp : (kind : KeyKind) → KeyOf kind → KeyOf kind → Ordering
 key_cmp text = slice_cmp nat_cmp
 key_cmp int64 = int_cmp
 
--- the number of an entry's key: Protocol Buffers encoding guide, "Maps"
-abbrev pub key_field : ℕ
-key_field = 1
-
--- the number of its value: the same section
-abbrev pub value_field : ℕ
-value_field = 2
+-- the numbers of an entry's fields
+abbrev pub entry_field : record { key : ℕ; value : ℕ }
+entry_field = record { key = 1; value = 2 }
 
 -- the fields of an entry
 abbrev pub entry_keys : KeyKind → List Key
-entry_keys text = len_key key_field ∷ len_key value_field ∷ []
-entry_keys int64 = varint_key key_field ∷ len_key value_field ∷ []
+entry_keys text = len_key entry_field.key ∷ len_key entry_field.value ∷ []
+entry_keys int64 = varint_key entry_field.key ∷ len_key entry_field.value ∷ []
 
 -- the key of an entry with these fields: the last key field; without one, the empty text or 0
 abbrev pub key_at : (kind : KeyKind) → List Wire → KeyOf kind
-key_at text fs = bytes_at key_field fs
-key_at int64 fs = int64_at key_field fs
+key_at text fs = bytes_at entry_field.key fs
+key_at int64 fs = int64_at entry_field.key fs
 
 -- the key can be read: a text has to be UTF-8, an int64 always reads
 abbrev pub KeyReads : KeyKind → List Wire → Type 0
-KeyReads text fs = IsUtf8 (bytes_at key_field fs)
+KeyReads text fs = IsUtf8 (bytes_at entry_field.key fs)
 KeyReads int64 fs = Unit {0}
 
 -- ---- entries
@@ -68,7 +64,7 @@ Entry kind = KeyOf kind × List (List ℕ)
 abbrev pub IsEntry : (kind : KeyKind) → List ℕ → Entry kind → Type 0
 IsEntry kind bytes entry =
     (fs : List Wire) × IsMessage (entry_keys kind) (bytes ∷ []) fs × KeyReads kind fs
-    × (entry ≡ (key_at kind fs, payloads value_field fs))
+    × (entry ≡ (key_at kind fs, payloads entry_field.value fs))
 
 -- the payloads are these entries, in order
 abbrev pub AreEntries : (kind : KeyKind) → List (List ℕ) → List (Entry kind) → Type 0
@@ -125,8 +121,8 @@ pub data MapFault (kind : KeyKind) (ValueFault : List (List ℕ) → Refusal →
     (parts : List (List ℕ)) (e : Refusal) : Type 0 where
   in_entry : SomeEntryFault kind parts e → MapFault kind ValueFault parts e
   in_faulty_entry : (part : List ℕ) (own : List Wire) (reason : Refusal) → Contains parts part
-      → EntryFault kind part reason → Fields part own → payloads value_field own ≢ []
-      → ValueFault (payloads value_field own) e → MapFault kind ValueFault parts e
+      → EntryFault kind part reason → Fields part own → payloads entry_field.value own ≢ []
+      → ValueFault (payloads entry_field.value own) e → MapFault kind ValueFault parts e
   in_value : (read : List (Entry kind)) → Readable kind parts read
       → SomeValueFault kind ValueFault (entries (map_of kind read)) e
       → MapFault kind ValueFault parts e

@@ -16,10 +16,14 @@ Merges [] fs = fs ≡ []
 Merges (part ∷ parts) fs =
     (own others : List Wire) × Fields part own × Merges parts others × (fs ≡ own ++ others)
 
+-- some element has this property
+abbrev pub SomeOf : {A : Type 0} → (A → Type 0) → List A → Type 0
+SomeOf P [] = ⊥
+SomeOf P (x ∷ xs) = P x ⊎ SomeOf P xs
+
 -- some payload of the message is not a list of whole fields
 abbrev pub Breaks : List (List ℕ) → Type 0
-Breaks [] = ⊥
-Breaks (part ∷ parts) = IsBroken part ⊎ Breaks parts
+Breaks parts = SomeOf IsBroken parts
 
 -- the first payload begins with no field, so its fault is found before any field is kept
 abbrev pub FirstBreaks : List (List ℕ) → Type 0

@@ -43,6 +43,10 @@ bytes_at k fs = unwrap_or (last_of (payloads k fs)) []
 abbrev pub Utf8Fault : List ℕ → Refusal → Type 0
 Utf8Fault bytes e = ¬ IsUtf8 bytes × (e ≡ BadText)
 
+-- the last string of this number is not UTF-8
+abbrev pub StringFault : ℕ → List Wire → Refusal → Type 0
+StringFault k fs e = Utf8Fault (bytes_at k fs) e
+
 -- the last varint of this number; 0 if there is none
 abbrev pub varint_at : ℕ → List Wire → ℕ
 varint_at k fs = unwrap_or (last_of (varints k fs)) 0

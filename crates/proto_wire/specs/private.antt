@@ -2,4 +2,5 @@
 pub mod Maps
 pub mod Payload
 pub mod Run
+pub mod Values
 pub mod Writing

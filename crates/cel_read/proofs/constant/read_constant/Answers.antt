@@ -3,8 +3,8 @@ use Rattle.proto_wire.specs.Fields.{Wire, field_view}
 use Rattle.proto_wire.specs.Merge.{parts_view}
 use Rattle.proto_wire.specs.Messages.{IsMessage}
 use Rattle.cel_tree.specs.Constants.{constants, constant_keys, ConstantFails}
-use Rattle.cel_tree.specs.Reading.{LacksMember, IsUnsupported, OneofFault}
-use Rattle.cel_tree.proofs.Readers.{read_fault}
+use Rattle.proto_wire.specs.Reading.{LacksMember, IsUnsupported, OneofFault}
+use Rattle.proto_wire.proofs.Readers.{read_fault}
 use Rattle.cel_read.proofs.constant.read_constant.Goals as goal
 
 pub returns-clause-fault : goal.returns-clause-fault

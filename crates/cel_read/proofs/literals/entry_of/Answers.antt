@@ -1,9 +1,9 @@
 use Rattle.std.proofs.Common.{List, map}
 use Rattle.proto_wire.specs.Fields.{Wire, field_view}
 use Rattle.cel_tree.specs.Nodes.{EntryLacks, EntryWrong}
-use Rattle.cel_tree.specs.private.Values.{ValuesFault}
+use Rattle.proto_wire.specs.private.Values.{ValuesFault}
 use Rattle.cel_read.proofs.Entries.{key_bad}
-use Rattle.cel_tree.proofs.Readers.{exit_fault}
+use Rattle.proto_wire.proofs.Readers.{exit_fault}
 use Rattle.cel_read.proofs.literals.entry_of.Goals as goal
 
 pub returns-in_err-require_map_key-clause-fault : goal.returns-in_err-require_map_key-clause-fault

@@ -5,7 +5,7 @@ use Rattle.proto_wire.specs.Merge.{parts_view}
 use Rattle.cel_tree.specs.Nodes.{MapEntryFault}
 use Rattle.cel_read.proofs.Basics.{part_in}
 use Rattle.cel_read.proofs.Entries.{entries_push}
-use Rattle.cel_tree.proofs.Readers.{exit_memory_or}
+use Rattle.proto_wire.proofs.Readers.{exit_memory_or}
 use Rattle.cel_read.proofs.literals.read_entries.Goals as goal
 
 pub returns-in_err-entry-clause-fault : goal.returns-in_err-entry-clause-fault

@@ -3,7 +3,7 @@ use Rattle.std.proofs.lemmas.Result.{MatchResult-weaker}
 use Rattle.proto_wire.specs.Fields.{Wire, field_view}
 use Rattle.proto_wire.specs.Messages.{IsMessage}
 use Rattle.cel_tree.specs.Nodes.{entry_keys, EntryLacks, EntryWrong}
-use Rattle.cel_tree.proofs.Readers.{read_fault}
+use Rattle.proto_wire.proofs.Readers.{read_fault}
 use Rattle.cel_read.proofs.literals.read_entry.Goals as goal
 
 pub returns-clause-found : goal.returns-clause-found

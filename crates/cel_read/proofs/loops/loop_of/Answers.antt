@@ -1,8 +1,8 @@
 use Rattle.std.proofs.Common.{List, map, inl}
 use Rattle.proto_wire.specs.Fields.{Wire, field_view}
 use Rattle.cel_tree.specs.Nodes.{LoopLacks, LoopWrong}
-use Rattle.cel_tree.specs.private.Values.{ValuesFault}
-use Rattle.cel_tree.proofs.Readers.{exit_fault}
+use Rattle.proto_wire.specs.private.Values.{ValuesFault}
+use Rattle.proto_wire.proofs.Readers.{exit_fault}
 use Rattle.cel_read.proofs.loops.loop_of.Goals as goal
 
 pub returns-in_err-require_parts-clause-fault : goal.returns-in_err-require_parts-clause-fault

@@ -4,7 +4,7 @@ use Rattle.proto_wire.specs.Merge.{parts_view}
 use Rattle.proto_wire.specs.Messages.{IsMessage}
 use Rattle.cel_tree.specs.Nodes.{loop_keys, LoopSays, LoopLacks, LoopWrong}
 use Rattle.cel_read.specs.private.NodeViews.{node_view}
-use Rattle.cel_tree.proofs.Readers.{read_fault, read_found}
+use Rattle.proto_wire.proofs.Readers.{read_fault, read_found}
 use Rattle.cel_read.proofs.loops.read_loop.Goals as goal
 
 pub returns-clause-found : goal.returns-clause-found

@@ -4,7 +4,7 @@ use Rattle.proto_wire.specs.Merge.{parts_view}
 use Rattle.proto_wire.specs.Messages.{IsMessage, MessageFault}
 use Rattle.proto_wire.proofs.PlaceExits.{exit_new_or}
 use Rattle.cel_tree.specs.Message.{CheckedFault, checked_keys}
-use Rattle.cel_tree.specs.Reading as reading
+use Rattle.proto_wire.specs.Reading as reading
 use Rattle.cel_tree.proofs.PlacedExits.{exit_unplaced_or, last_placed, without_place}
 use Rattle.cel_read.specs.Places.{CheckedFaultAt, CheckedWrongAt, in_fields, of_fields}
 use Rattle.cel_read.proofs.PlaceLaws.{checked_fails}

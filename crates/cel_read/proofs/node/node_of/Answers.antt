@@ -2,9 +2,9 @@ use Rattle.std.proofs.Common.{List, map, inr}
 use Rattle.proto_wire.specs.Fields.{Wire, field_view}
 use Rattle.proto_wire.specs.Oneof.{member_run}
 use Rattle.cel_tree.specs.Nodes.{node_kinds, kind_keys, MemberFails}
-use Rattle.cel_tree.specs.Reading.{LacksMember, IsUnsupported, OneofFault}
-use Rattle.cel_tree.specs.private.Values.{ValuesFault}
-use Rattle.cel_tree.proofs.Readers.{exit_memory_or, oneof_bad}
+use Rattle.proto_wire.specs.Reading.{LacksMember, IsUnsupported, OneofFault}
+use Rattle.proto_wire.specs.private.Values.{ValuesFault}
+use Rattle.proto_wire.proofs.Readers.{exit_memory_or, oneof_bad}
 use Rattle.cel_read.proofs.node.node_of.Goals as goal
 
 pub returns-in_err-node-clause-fault : goal.returns-in_err-node-clause-fault

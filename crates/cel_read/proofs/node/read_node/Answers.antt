@@ -4,8 +4,8 @@ use Rattle.proto_wire.specs.Fields.{Wire, field_view}
 use Rattle.proto_wire.specs.Merge.{parts_view}
 use Rattle.proto_wire.specs.Messages.{IsMessage}
 use Rattle.cel_tree.specs.Nodes.{node_kinds, node_keys, MemberFails}
-use Rattle.cel_tree.specs.Reading.{LacksMember, IsUnsupported, OneofFault}
-use Rattle.cel_tree.proofs.Readers.{read_fault}
+use Rattle.proto_wire.specs.Reading.{LacksMember, IsUnsupported, OneofFault}
+use Rattle.proto_wire.proofs.Readers.{read_fault}
 use Rattle.cel_read.proofs.node.read_node.Goals as goal
 
 pub returns-clause-found : goal.returns-clause-found

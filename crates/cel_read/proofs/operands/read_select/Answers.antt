@@ -2,8 +2,9 @@ use Rattle.std.proofs.Common.{ℕ, List, map}
 use Rattle.proto_wire.specs.Fields.{Wire, field_view}
 use Rattle.proto_wire.specs.Merge.{parts_view}
 use Rattle.proto_wire.specs.Messages.{IsMessage}
-use Rattle.cel_tree.specs.Nodes.{select_keys, SelectLacks, SelectWrong}
-use Rattle.cel_tree.proofs.Readers.{read_fault}
+use Rattle.proto_wire.specs.Values.{StringFault}
+use Rattle.cel_tree.specs.Nodes.{select_keys, SelectLacks, select_field}
+use Rattle.proto_wire.proofs.Readers.{read_fault}
 use Rattle.cel_read.proofs.operands.read_select.Goals as goal
 
 pub returns-clause-fault : goal.returns-clause-fault
@@ -11,5 +12,5 @@ returns-clause-fault c =
     let parts : List (List ℕ) = parts_view c.args.parts.now in
     let fs : List Wire = map field_view c.in_ok-fields.fields.items in
     let message : IsMessage select_keys parts fs = c.in_ok-fields.ensures.found in
-    read_fault select_keys SelectLacks SelectWrong parts fs message c.select_of.result
+    read_fault select_keys SelectLacks (StringFault select_field.field) parts fs message c.select_of.result
     (rw c.deref.ensures at c.select_of.ensures.fault)

@@ -1,7 +1,7 @@
 use Rattle.std.proofs.Common.{ℕ, List}
 use Rattle.proto_wire.specs.Merge.{parts_view}
 use Rattle.cel_tree.specs.Nodes.{NodeFault}
-use Rattle.cel_tree.proofs.Readers.{last_memory_or}
+use Rattle.proto_wire.proofs.Readers.{last_memory_or}
 use Rattle.cel_read.specs.Places.{OwnFault, of_message}
 use Rattle.cel_read.proofs.read.read_own.Goals as goal
 

@@ -3,8 +3,8 @@ use Rattle.proto_wire.specs.Fields.{Wire, field_view}
 use Rattle.proto_wire.specs.Merge.{parts_view}
 use Rattle.proto_wire.specs.Messages.{IsMessage}
 use Rattle.cel_tree.specs.References.{reference_keys, ReferenceWrong}
-use Rattle.cel_tree.specs.Reading.{LacksNothing}
-use Rattle.cel_tree.proofs.Readers.{read_fault}
+use Rattle.proto_wire.specs.Reading.{Never}
+use Rattle.proto_wire.proofs.Readers.{read_fault}
 use Rattle.cel_read.proofs.reference.read_reference.Goals as goal
 
 pub returns-clause-fault : goal.returns-clause-fault
@@ -12,5 +12,5 @@ returns-clause-fault c =
     let parts : List (List ℕ) = parts_view c.args.parts.now in
     let fs : List Wire = map field_view c.in_ok-fields.fields.items in
     let message : IsMessage reference_keys parts fs = c.in_ok-fields.ensures.found in
-    read_fault reference_keys LacksNothing ReferenceWrong parts fs message c.reference_of.result
+    read_fault reference_keys Never ReferenceWrong parts fs message c.reference_of.result
     (rw c.deref.ensures at c.reference_of.ensures.fault)

@@ -3,7 +3,7 @@ use Rattle.std.specs.Prelude.{Contains}
 use Rattle.proto_wire.specs.Merge.{parts_view}
 use Rattle.proto_wire.specs.Values.{Utf8Fault}
 use Rattle.cel_read.proofs.Basics.{part_in}
-use Rattle.cel_tree.proofs.Readers.{exit_plain}
+use Rattle.proto_wire.proofs.Readers.{exit_plain}
 use Rattle.cel_read.proofs.reference.require_texts.Goals as goal
 
 pub returns-in_err-text_of-clause-fault : goal.returns-in_err-text_of-clause-fault

@@ -1,23 +1,15 @@
-use Rattle.std.proofs.Common.{◌≡◌, ℕ, List, map, subst, ap, ◌∙◌}
-use Rattle.std.specs.Prelude.{IfOk, IfErr, option_map}
+use Rattle.std.proofs.Common.{◌≢◌, List, [], map, arith}
+use Rattle.std.proofs.lemmas.Grind.{common_steps}
 use Rattle.proto_wire.specs.Fields.{Wire, field_view}
-use Rattle.proto_wire.specs.Merge.{parts_view}
-use Rattle.proto_wire.specs.Refusal.{MemoryOr}
-use Rattle.proto_wire.specs.Values.{payloads}
-use Rattle.cel_tree.specs.References.{IsValue, ValueFault, reference_field}
-use Rattle.cel_tree.specs.View.{constant_view}
+use Rattle.proto_wire.proofs.OptionalLaws.{exit_optional}
+use Rattle.cel_tree.specs.Constants.{ConstantFault}
+use Rattle.cel_tree.specs.References.{reference_field}
 use Rattle.cel_read.proofs.reference.value_of.Goals as goal
 
-pub returns-clause-found : goal.returns-clause-found
-returns-clause-found c =
+pub returns-in_err-read_constant-clause-fault : goal.returns-in_err-read_constant-clause-fault
+returns-in_err-read_constant-clause-fault c =
+    let exit = c.from_residual-in_err-read_constant in
     let fs : List Wire = map field_view c.args.fields.now in
-    let parts : parts_view c.deref.result.now ≡ payloads reference_field.value fs = ap parts_view c.deref.ensures ∙ c.in_ok-parts.ensures in
-    let P : List (List ℕ) → Type 0 = λ ps. IfOk c.read_value.result (λ v. IsValue ps (option_map constant_view v)) in
-    subst P parts c.read_value.ensures.found
-
-pub returns-clause-fault : goal.returns-clause-fault
-returns-clause-fault c =
-    let fs : List Wire = map field_view c.args.fields.now in
-    let parts : parts_view c.deref.result.now ≡ payloads reference_field.value fs = ap parts_view c.deref.ensures ∙ c.in_ok-parts.ensures in
-    let P : List (List ℕ) → Type 0 = λ ps. IfErr c.read_value.result (MemoryOr (ValueFault ps)) in
-    subst P parts c.read_value.ensures.fault
+    let some : c.in_ok-parts.parts.items ≢ [] = grind (arith, common_steps) in
+    exit_optional ConstantFault reference_field.value fs c.in_ok-parts.parts.items c.in_ok-parts.ensures some
+    exit.result _ exit.ensures.1 (rw (← c.deref.ensures) c.in_err-read_constant.ensures.fault)

@@ -5,7 +5,7 @@ use Rattle.cel_tree.specs.TypeEntries.{TypeNodeFault, TypeEntryFault}
 use Rattle.cel_tree.specs.View.{type_entry_view}
 use Rattle.cel_read.specs.private.InnerTypes.{HoldsFault}
 use Rattle.cel_read.specs.private.NodeViews.{type_node_view}
-use Rattle.cel_tree.proofs.Readers.{exit_memory_or, last_memory_or}
+use Rattle.proto_wire.proofs.Readers.{exit_memory_or, last_memory_or}
 use Rattle.cel_read.proofs.TypeLevels.{type_found, type_own, type_inner}
 use Rattle.cel_read.proofs.type_entry.+type_entry.Goals as goal
 

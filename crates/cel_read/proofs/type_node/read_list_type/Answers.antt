@@ -3,8 +3,8 @@ use Rattle.proto_wire.specs.Fields.{Wire, field_view}
 use Rattle.proto_wire.specs.Merge.{parts_view}
 use Rattle.proto_wire.specs.Messages.{IsMessage}
 use Rattle.cel_tree.specs.TypeEntries.{list_type_keys, ListTypeWrong}
-use Rattle.cel_tree.specs.Reading.{LacksNothing}
-use Rattle.cel_tree.proofs.Readers.{read_fault}
+use Rattle.proto_wire.specs.Reading.{Never}
+use Rattle.proto_wire.proofs.Readers.{read_fault}
 use Rattle.cel_read.proofs.type_node.read_list_type.Goals as goal
 
 pub returns-clause-fault : goal.returns-clause-fault
@@ -12,5 +12,5 @@ returns-clause-fault c =
     let parts : List (List ℕ) = parts_view c.args.parts.now in
     let fs : List Wire = map field_view c.in_ok-fields.fields.items in
     let message : IsMessage list_type_keys parts fs = c.in_ok-fields.ensures.found in
-    read_fault list_type_keys LacksNothing ListTypeWrong parts fs message c.list_type_of.result
+    read_fault list_type_keys Never ListTypeWrong parts fs message c.list_type_of.result
     (rw c.deref.ensures at c.list_type_of.ensures.fault)

@@ -1,5 +1,5 @@
 use Rattle.std.proofs.Common.{inl}
-use Rattle.cel_tree.proofs.Readers.{exit_plain}
+use Rattle.proto_wire.proofs.Readers.{exit_plain}
 use Rattle.cel_types.specs.TypingFaults.{of_another_kind}
 use Rattle.cel_check.proofs.checker.literals.empty_map.Goals as goal
 

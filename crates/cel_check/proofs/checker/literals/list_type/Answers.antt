@@ -1,7 +1,7 @@
 use Rattle.std.proofs.Common.{ap, ◌∙◌}
 use Rattle.cel_value.proofs.Views.{view_list_type}
 use Rattle.cel_value.specs.Types.{list_type, type_view}
-use Rattle.cel_tree.proofs.Readers.{exit_fault}
+use Rattle.proto_wire.proofs.Readers.{exit_fault}
 use Rattle.cel_check.proofs.CheckSteps.{all_left, first_expr, no_exprs}
 use Rattle.cel_check.proofs.checker.literals.list_type.Goals as goal
 

@@ -1,7 +1,7 @@
 use Rattle.std.proofs.Common.{◌≡◌, inl, inr, option_map, refl, ap, to_z, of_z, to_z-of_z, w64}
 use Rattle.cel_ops.specs.Attributes.{attribute_type}
 use Rattle.cel_value.specs.Texts.{text_view}
-use Rattle.cel_tree.proofs.Readers.{exit_fault}
+use Rattle.proto_wire.proofs.Readers.{exit_fault}
 use Rattle.cel_types.specs.TypingFaults.{SelectFault}
 use Rattle.cel_check.proofs.checker.variables.check_attribute.Goals as goal
 

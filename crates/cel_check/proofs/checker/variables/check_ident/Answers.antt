@@ -1,5 +1,5 @@
 use Rattle.std.proofs.Common.{◌≡◌, to_z, of_z, to_z-of_z, w64}
-use Rattle.cel_tree.proofs.Readers.{exit_fault}
+use Rattle.proto_wire.proofs.Readers.{exit_fault}
 use Rattle.cel_types.specs.TypingFaults.{IdentFault}
 use Rattle.cel_check.specs.private.Scopes.{scope_view}
 use Rattle.cel_value.specs.Texts.{text_view}

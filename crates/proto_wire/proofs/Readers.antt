@@ -11,8 +11,8 @@ use Rattle.proto_wire.specs.declared.key.Key.{Key}
 use Rattle.proto_wire.specs.declared.refusal.Refusal.{Refusal}
 use Rattle.proto_wire.specs.declared.refusal.Refusal.TheVariants.{Missing, Unsupported}
 pub use Rattle.proto_wire.proofs.Exits.{exit_fault, exit_memory_or, exit_memory, last_memory_or, memory_or_weaker}
-use Rattle.cel_tree.specs.Reading.{Reads, ReadFault, in_fields, lacking, in_values, OneofSays, IsUnsupported, OneofFault, LacksMember}
-use Rattle.cel_tree.specs.private.Values.{ValuesFault}
+use Rattle.proto_wire.specs.Reading.{Reads, ReadFault, in_fields, lacking, in_values, OneofSays, IsUnsupported, OneofFault, LacksMember}
+use Rattle.proto_wire.specs.private.Values.{ValuesFault}
 
 -- a fault of the values is one of the message
 pub values_fault : (keys : List Key) (Lacks : List Wire → Type 0) (Wrong : List Wire → Refusal → Type 0)

@@ -9,9 +9,9 @@ use Rattle.proto_wire.specs.declared.refusal.Refusal.{Refusal}
 use Rattle.proto_wire.specs.declared.refusal.Refusal.TheVariants.{Missing, Unsupported}
 use Rattle.proto_wire.proofs.Messages.{message_total, message_disjoint}
 use Rattle.proto_wire.proofs.Unique.{merges_unique}
-use Rattle.cel_tree.specs.Reading.{Reads, ReadFault, in_fields, lacking, in_values, OneofSays, Never, OneofFault, IsUnsupported, LacksMember}
-use Rattle.cel_tree.specs.private.Values.{ValuesFault}
-use Rattle.cel_tree.proofs.Readers.{values_fault}
+use Rattle.proto_wire.specs.Reading.{Reads, ReadFault, in_fields, lacking, in_values, OneofSays, Never, OneofFault, IsUnsupported, LacksMember}
+use Rattle.proto_wire.specs.private.Values.{ValuesFault}
+use Rattle.proto_wire.proofs.Readers.{values_fault}
 
 module _ {T : Type 0} (keys : List Key) (Says : List Wire → T → Type 0) where
   pub reads_unique : ((fs : List Wire) (x y : T) → Says fs x → Says fs y → x ≡ y)

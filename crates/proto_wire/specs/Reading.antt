@@ -26,9 +26,20 @@ pub data ReadFault (keys : List Key) (Lacks : List Wire → Type 0)
       → ReadFault keys Lacks Wrong parts e
   in_values : (fs : List Wire) → Merges parts fs → Wrong fs e → ReadFault keys Lacks Wrong parts e
 
--- no field is required
-abbrev pub LacksNothing : List Wire → Type 0
-LacksNothing fs = ⊥
+-- no meaning, no fault, or nothing that is lacking
+abbrev pub Never : {T : Type 0} → T → Type 0
+Never x = ⊥
+
+-- ---- optional messages
+
+-- the optional message of this number: none without a field; otherwise all payloads merge
+abbrev pub IsOptional : {M : Type 0} → (List (List ℕ) → M → Type 0) → ℕ → List Wire → Option M → Type 0
+IsOptional Is k fs None = payloads k fs ≡ []
+IsOptional Is k fs (Some m) = (payloads k fs ≢ []) × Is (payloads k fs) m
+
+-- there is a field of this number, and its payloads have a fault
+abbrev pub OptionalFault : (List (List ℕ) → Refusal → Type 0) → ℕ → List Wire → Refusal → Type 0
+OptionalFault F k fs e = (payloads k fs ≢ []) × F (payloads k fs) e
 
 -- ---- oneofs, by a table of their members; none in the table means that a member is not supported
 
@@ -39,10 +50,6 @@ abbrev pub OneofSays : {M T : Type 0} → List (Key × Option M) → (T → Type
 OneofSays table Without Says fs x = MatchOption (last_number (keys_of table) fs) (Without x)
     (λ n. MatchOption (member_in table n) (Without x)
     (λ m. Says m n (member_run (keys_of table) fs) x))
-
--- no meaning, or no fault
-abbrev pub Never : {T : Type 0} → T → Type 0
-Never x = ⊥
 
 -- there is no member
 abbrev pub LacksMember : {M : Type 0} → List (Key × Option M) → List Wire → Type 0

@@ -7,7 +7,7 @@ use Rattle.proto_wire.specs.Oneof.{member_run, last_number, member_in}
 use Rattle.proto_wire.specs.Values.{payloads}
 use Rattle.proto_wire.specs.declared.key.Key.{Key}
 use Rattle.proto_wire.proofs.Unique.{merges_unique}
-use Rattle.cel_tree.specs.Reading.{OneofSays, StandsIn}
+use Rattle.proto_wire.specs.Reading.{OneofSays, StandsIn}
 
 module _ {M T : Type 0} (table : List (Key × Option M)) (Without : T → Type 0) (Says : M → ℕ → List Wire → T → Type 0) where
   -- what a oneof says is what its last member says, or there is none that says something
