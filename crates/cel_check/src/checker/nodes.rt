@@ -94,7 +94,13 @@ fn check_node<'a>(
             operand,
             field,
             test_only,
-        } => check_select(alloc, checked, scope, *id, operand, field, *test_only),
+        } => {
+            let selected = Selected {
+                field,
+                test_only: *test_only,
+            };
+            check_select(alloc, checked, scope, *id, operand, selected)
+        }
         Tree::Call {
             function,
             target,
@@ -111,6 +117,13 @@ fn check_node<'a>(
     }
 }
 
+/// What a Select takes of its operand: a field, or whether it is there.
+#[derive(Clone, Copy)]
+struct Selected<'a> {
+    field: &'a ArcStr,
+    test_only: bool,
+}
+
 /// Checks a Select: of a root's attribute, or of its operand, a map from texts.
 #[cycle(check)]
 fn check_select<'a>(
@@ -119,21 +132,27 @@ fn check_select<'a>(
     scope: &Scope<'_>,
     id: i64,
     operand: &'a Tree,
-    field: &'a ArcStr,
-    test_only: bool,
+    selected: Selected<'a>,
 ) -> Result<TypedExpr<'a>, Fault>
     requires { length (scope_view scope.now) + locals_in (tree_view operand.now) ≤ most_locals }
     ensures found { IfOk result (λ e. IsNode (maps_of (checked_view checked.now)) (scope_view scope.now)
-        (select id (tree_view operand.now) (text_view field.now) test_only) (expr_view e)) }
+        (select id (tree_view operand.now) (text_view selected.entry.field.now) selected.entry.test_only) (expr_view e)) }
     ensures fault { IfErr result (PlacedOr (PlacedInside (maps_of (checked_view checked.now)) (scope_view scope.now)
-        (select id (tree_view operand.now) (text_view field.now) test_only))) }
+        (select id (tree_view operand.now) (text_view selected.entry.field.now) selected.entry.test_only))) }
 {
     if let Some(root) = bare_root(operand, scope) {
-        let attribute = check_attribute(alloc, &checked.refs, id, root, field, test_only)?;
+        let attribute = check_attribute(
+            alloc,
+            &checked.refs,
+            id,
+            root,
+            selected.field,
+            selected.test_only,
+        )?;
         return Ok(attribute);
     }
     let map = check_tree(alloc, checked, scope, operand)?;
-    Ok(field_expr(alloc, map, field, test_only)?)
+    Ok(field_expr(alloc, map, selected.field, selected.test_only)?)
 }
 
 /// Checks the target of a call, if there is one.

@@ -35,13 +35,13 @@ check_select-returns-in_err-attribute-clause-fault t c =
     let is = rw c.in-Some.is at c.bare_root.ensures in
     let same : to_z w64 (of_z w64 c.args.id) ≡ c.args.id = to_z-of_z c.ranges.id in
     exit_unplaced_or _ (PlacedInside (maps_of (checked_view c.args.checked.now)) (scope_view c.args.scope.now)
-    (select c.args.id (tree_view c.args.operand.now) (text_view c.args.field.now) c.args.test_only)) c.from_residual.result _ c.from_residual.ensures.1
+    (select c.args.id (tree_view c.args.operand.now) (text_view c.args.selected.field.now) c.args.selected.test_only)) c.from_residual.result _ c.from_residual.ensures.1
     (rw same at c.in_err-attribute.ensures.fault)
     (λ e bad. inl (
       refl,
       attribute_bad (maps_of (checked_view c.args.checked.now)) (scope_view c.args.scope.now)
-          c.args.id (tree_view c.args.operand.now) (text_view c.in-Some.root.now) (text_view c.args.field.now)
-          c.args.test_only e (sym is) bad,
+          c.args.id (tree_view c.args.operand.now) (text_view c.in-Some.root.now) (text_view c.args.selected.field.now)
+          c.args.selected.test_only e (sym is) bad,
     ))
 
 pub check_select-returns-clause-found : goal.check_select-returns-clause-found
@@ -49,7 +49,7 @@ check_select-returns-clause-found t c =
     let is = rw c.in_default.is at c.bare_root.ensures in
     let h = c.in_ok-field_expr.ensures.found in
     rw h.2 (field_found (maps_of (checked_view c.args.checked.now)) (scope_view c.args.scope.now)
-    c.args.id (tree_view c.args.operand.now) (text_view c.args.field.now) c.args.test_only
+    c.args.id (tree_view c.args.operand.now) (text_view c.args.selected.field.now) c.args.selected.test_only
     (expr_view c.in_ok-map.map) h.0 (sym is) c.in_ok-map.ensures.found h.1)
 
 pub check_select-returns-in_err-map-clause-fault : goal.check_select-returns-in_err-map-clause-fault
@@ -57,7 +57,7 @@ check_select-returns-in_err-map-clause-fault t c =
     let is = rw c.in_default.is at c.bare_root.ensures in
     exit_placed (TypeFaultAt (maps_of (checked_view c.args.checked.now)) (scope_view c.args.scope.now) (tree_view c.args.operand.now))
     (PlacedInside (maps_of (checked_view c.args.checked.now)) (scope_view c.args.scope.now)
-    (select c.args.id (tree_view c.args.operand.now) (text_view c.args.field.now) c.args.test_only))
+    (select c.args.id (tree_view c.args.operand.now) (text_view c.args.selected.field.now) c.args.selected.test_only))
     c.from_residual-in_err-map.result c.in_err-map.field-0.0 c.from_residual-in_err-map.ensures.1 c.in_err-map.ensures.fault
     (λ path e bad. inr (sym is, bad))
 
@@ -67,12 +67,12 @@ check_select-returns-in_err-field_expr-clause-fault t c =
     exit_unplaced_or
     (λ e. ((t : ValueType) → kind (expr_view c.in_ok-map.map) ≢ map_type keys.Text t) × (e ≡ NoOverload))
     (PlacedInside (maps_of (checked_view c.args.checked.now)) (scope_view c.args.scope.now)
-    (select c.args.id (tree_view c.args.operand.now) (text_view c.args.field.now) c.args.test_only))
+    (select c.args.id (tree_view c.args.operand.now) (text_view c.args.selected.field.now) c.args.selected.test_only))
     c.from_residual-in_err-field_expr.result _ c.from_residual-in_err-field_expr.ensures.1 c.in_err-field_expr.ensures.fault
     (λ e bad. inl (
       refl,
       field_bad (maps_of (checked_view c.args.checked.now)) (scope_view c.args.scope.now)
-          c.args.id (tree_view c.args.operand.now) (text_view c.args.field.now) c.args.test_only
+          c.args.id (tree_view c.args.operand.now) (text_view c.args.selected.field.now) c.args.selected.test_only
           (expr_view c.in_ok-map.map) e (sym is) c.in_ok-map.ensures.found bad.0 bad.1,
     ))
 
