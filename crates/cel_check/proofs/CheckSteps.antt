@@ -16,7 +16,7 @@ use Rattle.cel_tree.specs.private.TreeViews.{boxed_view, tree_entries_view, tree
 use Rattle.cel_tree.specs.declared.tree.Tree.{Tree}
 use Rattle.cel_tree.specs.declared.tree.TreeEntry.{TreeEntry}
 use Rattle.std.specs.declared.sync.ArcStr.{ArcStr}
-use Rattle.cel_tree.specs.Checked.{CelTypeEntry, of_type, dyn_type, unsupported_type}
+use Rattle.cel_tree.specs.Checked.{CelTypeEntry, of_type}
 use Rattle.cel_value.specs.Texts.{points_of, text_view}
 use Rattle.cel_value.specs.Types.{ValueType, type_eq, type_view}
 use Rattle.cel_value.specs.declared.cel_type.CelType.{CelType}

@@ -20,7 +20,7 @@ use Rattle.cel_types.specs.View.{typed_of}
 use Rattle.cel_check.specs.private.Kinds.{NoElements}
 use Rattle.proto_wire.specs.Places.{Path, path_at}
 use Rattle.proto_wire.specs.declared.refusal.Refusal.{Refusal}
-use Rattle.proto_wire.specs.declared.refusal.Refusal.TheVariants.{Missing, NoOverload, OutOfRange}
+use Rattle.proto_wire.specs.declared.refusal.Refusal.TheVariants.{NoOverload}
 
 -- all entries of an expression agree; the type entry of its own node is left out
 abbrev pub InsideAgrees : Maps → Kinds → CelTree → Type 0
