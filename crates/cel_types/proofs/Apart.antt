@@ -5,7 +5,7 @@ use Rattle.std.specs.FinMap.{get}
 use Rattle.proto_wire.specs.declared.refusal.Refusal.{Refusal}
 use Rattle.cel_value.specs.Types.{ValueType, bool_type, map_type, type_of_key}
 use Rattle.cel_value.specs.declared.cel_type.KeyType.TheVariants as keys
-use Rattle.cel_tree.specs.Checked.{CelReference, CelTypeEntry, of_type, dyn_type, unsupported_type}
+use Rattle.cel_tree.specs.Checked.{CelReference, CelTypeEntry, of_type, dyn_type}
 use Rattle.cel_tree.specs.Tree.{CelTree, constant, ident, select, call, list_literal, map_literal, comprehension, CelTarget, no_target, target, CelTrees, no_trees, tree, CelTreeEntries, no_tree_entries, tree_entry}
 use Rattle.cel_overload.specs.declared.overload.OverloadFault.TheVariants as calls
 use Rattle.cel_overload.proofs.OneOverload.{call_disjoint}
