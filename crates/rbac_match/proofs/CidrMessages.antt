@@ -3,6 +3,7 @@ use Rattle.std.proofs.Common.{◌≡◌, ℕ, ◌⊎◌, inl, inr, List, IsUtf8,
 use Rattle.std.proofs.lemmas.Bool.{cases_lt}
 use Rattle.attributes.specs.Address.{IsIpText, Range, width_of}
 use Rattle.attributes.specs.declared.address.Ip.{Ip}
+use Rattle.proto_wire.specs.Reading.{in_fields, lacking, in_values}
 use Rattle.proto_wire.specs.Values.{uint32_at, payloads, bytes_at}
 use Rattle.proto_wire.specs.Fields.{Wire}
 use Rattle.proto_wire.specs.Merge.{Merges}
@@ -11,7 +12,7 @@ use Rattle.proto_wire.proofs.Unique.{merges_unique}
 use Rattle.proto_wire.proofs.Messages.{message_total, message_disjoint}
 use Rattle.proto_wire.specs.declared.refusal.Refusal.{Refusal}
 use Rattle.proto_wire.specs.declared.refusal.Refusal.TheVariants.{BadText, OutOfRange}
-use Rattle.rbac_match.specs.Cidr.{cidr_field, uint32_field, cidr_keys, uint32_keys, IsCidr, AddressFault, CidrFault, cidr_fields, in_address, in_length, too_long}
+use Rattle.rbac_match.specs.Cidr.{cidr_field, uint32_field, cidr_keys, uint32_keys, IsCidr, AddressFault, CidrFault, in_address, in_length, too_long}
 use Rattle.rbac_match.proofs.Basics.{utf8_total}
 use Rattle.attributes.proofs.OneAddress.{one_address}
 use Rattle.rbac_match.proofs.AddressTexts.{ip_total}
@@ -21,18 +22,18 @@ module _ (parts : List (List ℕ)) (fs : List Wire) (message : IsMessage cidr_ke
   length_settles : IsUtf8 (bytes_at cidr_field.address_prefix fs) → (ip : Ip) → IsIpText (bytes_at cidr_field.address_prefix fs) ip
       → ((range : Range) × IsCidr parts range) ⊎ ((e : Refusal) × CidrFault parts e)
   length_settles utf8 ip spelled = elim (message_total uint32_keys (payloads cidr_field.prefix_len fs)) [
-    | inr bad ↦ inr (bad.0, in_length fs message.0 bad.1)
+    | inr bad ↦ inr (bad.0, in_values fs message.0 (in_length bad.1))
     | inl (ls, length) ↦ elim (cases_lt (width_of ip) (uint32_at uint32_field.value ls)) [
-      | inl long ↦ inr (OutOfRange, too_long fs ls ip message.0 spelled length.0 long refl)
+      | inl long ↦ inr (OutOfRange, in_values fs message.0 (too_long ls ip spelled length.0 long refl))
       | inr within ↦ inl (record { address = ip; prefix_len = uint32_at uint32_field.value ls }, (fs, message, utf8, spelled, (ls, length, refl), within))
     ]
   ]
 
   address_settles : ((range : Range) × IsCidr parts range) ⊎ ((e : Refusal) × CidrFault parts e)
   address_settles = elim (utf8_total (bytes_at cidr_field.address_prefix fs)) [
-    | inr not_utf8 ↦ inr (BadText, in_address fs message.0 (inl (not_utf8, refl)))
+    | inr not_utf8 ↦ inr (BadText, in_values fs message.0 (in_address (inl (not_utf8, refl))))
     | inl utf8 ↦ elim (ip_total (bytes_at cidr_field.address_prefix fs)) [
-      | inr none ↦ inr (OutOfRange, in_address fs message.0 (inr (refl, utf8, none)))
+      | inr none ↦ inr (OutOfRange, in_values fs message.0 (in_address (inr (refl, utf8, none))))
       | inl (ip, spelled) ↦ length_settles utf8 ip spelled
     ]
   ]
@@ -41,24 +42,25 @@ module _ (parts : List (List ℕ)) (fs : List Wire) (message : IsMessage cidr_ke
 pub cidr_total : (parts : List (List ℕ))
     → ((range : Range) × IsCidr parts range) ⊎ ((e : Refusal) × CidrFault parts e)
 cidr_total parts = elim (message_total cidr_keys parts) [
-  | inr bad ↦ inr (bad.0, cidr_fields bad.1)
+  | inr bad ↦ inr (bad.0, in_fields bad.1)
   | inl (fs, message) ↦ address_settles parts fs message
 ]
 
 -- not both
 pub cidr_disjoint : (parts : List (List ℕ)) (range : Range) (e : Refusal) → IsCidr parts range
     → CidrFault parts e → ⊥
-cidr_disjoint parts range e (fs, message, utf8, spelled, length, within) (cidr_fields bad) = message_disjoint cidr_keys parts fs e message bad
-cidr_disjoint parts range e (fs, message, utf8, spelled, length, within) (in_address gs merged bad) =
+cidr_disjoint parts range e (fs, message, utf8, spelled, length, within) (in_fields bad) = message_disjoint cidr_keys parts fs e message bad
+cidr_disjoint parts range e (fs, message, utf8, spelled, length, within) (lacking gs also none is) = absurd none
+cidr_disjoint parts range e (fs, message, utf8, spelled, length, within) (in_values gs merged (in_address bad)) =
     let P : List Wire → Type 0 = λ xs. AddressFault (bytes_at cidr_field.address_prefix xs) e in
     elim (subst P (merges_unique parts gs fs merged message.0) bad) [
       | inl not_text ↦ not_text.0 utf8
       | inr none ↦ none.2 range.address spelled
     ]
-cidr_disjoint parts range e (fs, message, utf8, spelled, length, within) (in_length gs merged bad) =
+cidr_disjoint parts range e (fs, message, utf8, spelled, length, within) (in_values gs merged (in_length bad)) =
     let P : List Wire → Type 0 = λ xs. MessageFault uint32_keys (payloads cidr_field.prefix_len xs) e in
     message_disjoint uint32_keys (payloads cidr_field.prefix_len fs) length.0 e length.1 (subst P (merges_unique parts gs fs merged message.0) bad)
-cidr_disjoint parts range e (fs, message, utf8, spelled, length, within) (too_long gs ls ip merged also joined long is) =
+cidr_disjoint parts range e (fs, message, utf8, spelled, length, within) (in_values gs merged (too_long ls ip also joined long is)) =
     let same : gs ≡ fs = merges_unique parts gs fs merged message.0 in
     let P : List Wire → Type 0 = λ xs. IsIpText (bytes_at cidr_field.address_prefix xs) ip in
     let Q : List Wire → Type 0 = λ xs. Merges (payloads cidr_field.prefix_len xs) ls in

@@ -3,6 +3,8 @@ use Rattle.std.proofs.Common.{◌≡◌, ◌≢◌, ℕ, ◌⊎◌, inl, inr, tr
 use Rattle.std.specs.Map.{keys_of}
 use Rattle.std.specs.Str.{IsUtf8, str_to_ascii_lowercase}
 use Rattle.std.proofs.lemmas.Str.Ascii.{lowercase-lowercase}
+use Rattle.proto_wire.specs.Reading.{OneofFault, IsUnsupported, in_fields, lacking, in_values}
+use Rattle.proto_wire.proofs.Readers.{oneof_bad}
 use Rattle.proto_wire.specs.Values.{bool_at, bytes_at, int64_at, payloads, Utf8Fault}
 use Rattle.proto_wire.specs.Fields.{Wire}
 use Rattle.proto_wire.specs.Oneof.{member_run, last_number, member_in}
@@ -13,7 +15,7 @@ use Rattle.proto_wire.specs.declared.refusal.Refusal.{Refusal}
 use Rattle.proto_wire.specs.declared.refusal.Refusal.TheVariants.{BadText, Missing, Unsupported}
 use Rattle.rbac_match.specs.Message.{range_field, range_keys}
 use Rattle.rbac_match.specs.Int64Range.{IsRange}
-use Rattle.rbac_match.specs.Header.{HeaderTest, specifiers, header_field, header_keys, SaysMember, SaysSpecifier, says_nothing, says_member, IsHeader, HeaderMemberFault, MemberReads, HeaderFault, header_fields, name_unreadable, name_missing, in_specifier}
+use Rattle.rbac_match.specs.Header.{HeaderTest, specifiers, header_field, header_keys, SaysMember, SaysSpecifier, says_nothing, says_member, IsHeader, HeaderMemberFault, MemberReads, HeaderFault}
 use Rattle.rbac_match.specs.declared.int64_range.Int64Range.{Int64Range}
 use Rattle.rbac_match.specs.declared.header.HeaderMember.{HeaderMember}
 use Rattle.rbac_match.specs.declared.header.HeaderMember.TheVariants as members
@@ -64,7 +66,7 @@ range_unique parts r q (fs, a, start, end) (gs, b, also_start, also_end) =
 -- the run of a member says what is asked, or has a fault
 member_total : (member : HeaderMember) (n : ℕ) (run : List Wire)
     → ((s : Specifier) × SaysMember member n run s)
-    ⊎ ((e : Refusal) × HeaderMemberFault (Some member) n run e)
+    ⊎ ((e : Refusal) × HeaderMemberFault member n run e)
 member_total (members.Text pattern) n run = elim (sought_total pattern (bytes_at n run)) [
   | inl accepted ↦ inl (_, (accepted, refl))
   | inr bad ↦ inr bad
@@ -81,7 +83,7 @@ member_total members.Matcher n run = elim (text_total (payloads n run)) [
 
 -- not both
 member_disjoint : (member : HeaderMember) (n : ℕ) (run : List Wire) (s : Specifier) (e : Refusal)
-    → SaysMember member n run s → HeaderMemberFault (Some member) n run e → ⊥
+    → SaysMember member n run s → HeaderMemberFault member n run e → ⊥
 member_disjoint (members.Text pattern) n run s e says bad =
     sought_disjoint pattern (bytes_at n run) e says.0 bad
 member_disjoint members.Range n run s e (range, is, asked) bad =
@@ -112,38 +114,30 @@ own_text members.Matcher n run s pattern says is = absurd cc
 
 -- fields say what is asked, or have a fault
 specifier_total : (fs : List Wire) → ((s : Specifier) × SaysSpecifier fs s)
-    ⊎ ((e : Refusal) × (n : ℕ) × (last_number (keys_of specifiers) fs ≡ Some n)
-    × HeaderMemberFault (member_in specifiers n) n (member_run (keys_of specifiers) fs) e)
+    ⊎ ((e : Refusal) × OneofFault specifiers IsUnsupported HeaderMemberFault fs e)
 specifier_total fs = elim (last_number (keys_of specifiers) fs) as (λ o.
     last_number (keys_of specifiers) fs ≡ o → ((s : Specifier) × SaysSpecifier fs s)
-    ⊎ ((e : Refusal) × (n : ℕ) × (last_number (keys_of specifiers) fs ≡ Some n)
-    × HeaderMemberFault (member_in specifiers n) n (member_run (keys_of specifiers) fs) e)) [
+    ⊎ ((e : Refusal) × OneofFault specifiers IsUnsupported HeaderMemberFault fs e)) [
       | None ↦ λ none. inl (Present true, says_nothing none refl)
       | Some n ↦ λ last. of_member n last _ refl
     ] refl
   where
     of_member : (n : ℕ) → last_number (keys_of specifiers) fs ≡ Some n → (o : Option HeaderMember)
         → member_in specifiers n ≡ o → ((s : Specifier) × SaysSpecifier fs s)
-        ⊎ ((e : Refusal) × (k : ℕ) × (last_number (keys_of specifiers) fs ≡ Some k)
-        × HeaderMemberFault (member_in specifiers k) k (member_run (keys_of specifiers) fs) e)
-    of_member n last None is = inr (Unsupported, n, last, rw is refl)
+        ⊎ ((e : Refusal) × OneofFault specifiers IsUnsupported HeaderMemberFault fs e)
+    of_member n last None is = inr (Unsupported, rw (last, is) refl)
     of_member n last (Some member) is =
         elim (member_total member n (member_run (keys_of specifiers) fs)) [
           | inl (s, says) ↦ inl (s, says_member n member last is says)
-          | inr (e, bad) ↦ inr (e, n, last, rw is bad)
+          | inr (e, bad) ↦ inr (e, oneof_bad specifiers fs IsUnsupported HeaderMemberFault n member last is e bad)
         ]
 
 -- not both
-specifier_disjoint : (fs : List Wire) (s : Specifier) (e : Refusal) (n : ℕ) → SaysSpecifier fs s
-    → last_number (keys_of specifiers) fs ≡ Some n
-    → HeaderMemberFault (member_in specifiers n) n (member_run (keys_of specifiers) fs) e → ⊥
-specifier_disjoint fs s e n (says_nothing none is) last bad =
-    let clash : None ≡ Some n = sym none ∙ last in cc
-specifier_disjoint fs s e n (says_member m member at is says) last bad =
-    let whole : Some n ≡ Some m = sym last ∙ at in
-    let same : n ≡ m = cc in
-    let P : ℕ → Type 0 = λ k. HeaderMemberFault (member_in specifiers k) k (member_run (keys_of specifiers) fs) e in
-    member_disjoint member m (member_run (keys_of specifiers) fs) s e says (rw is at (subst P same bad))
+specifier_disjoint : (fs : List Wire) (s : Specifier) (e : Refusal) → SaysSpecifier fs s
+    → OneofFault specifiers IsUnsupported HeaderMemberFault fs e → ⊥
+specifier_disjoint fs s e (says_nothing none is) bad = rw none at bad
+specifier_disjoint fs s e (says_member m member last is says) bad =
+    member_disjoint member m (member_run (keys_of specifiers) fs) s e says (rw (last, is) at bad)
 
 -- and they ask one thing
 specifier_unique : (fs : List Wire) (s t : Specifier) → SaysSpecifier fs s → SaysSpecifier fs t
@@ -181,13 +175,13 @@ member_reads fs s (says_member m member at is says) n pattern last of =
 pub header_total : (parts : List (List ℕ))
     → ((h : HeaderTest) × IsHeader parts h) ⊎ ((e : Refusal) × HeaderFault parts e)
 header_total parts = elim (message_total header_keys parts) [
-  | inr bad ↦ inr (bad.0, header_fields bad.1)
+  | inr bad ↦ inr (bad.0, in_fields bad.1)
   | inl (fs, message) ↦ elim (specifier_total fs) [
-    | inr (e, n, last, bad) ↦ inr (e, in_specifier fs n message.0 last bad)
+    | inr (e, bad) ↦ inr (e, in_values fs message.0 (inr bad))
     | inl (s, asked) ↦ elim (utf8_total (bytes_at header_field.name fs)) [
-      | inr bad ↦ inr (BadText, name_unreadable fs message.0 (bad, refl))
+      | inr bad ↦ inr (BadText, in_values fs message.0 (inl (bad, refl)))
       | inl readable ↦ elim (nil_or_not (bytes_at header_field.name fs)) [
-        | inl none ↦ inr (Missing, name_missing fs message none (member_reads fs s asked) refl)
+        | inl none ↦ inr (Missing, lacking fs message (none, member_reads fs s asked) refl)
         | inr named ↦ inl (
           record {
             name = str_to_ascii_lowercase (bytes_at header_field.name fs);
@@ -214,17 +208,16 @@ header_total parts = elim (message_total header_keys parts) [
 -- a HeaderMatcher that is a test has no fault
 pub header_disjoint : (parts : List (List ℕ)) (h : HeaderTest) (e : Refusal) → IsHeader parts h
     → HeaderFault parts e → ⊥
-header_disjoint parts h e is (header_fields bad) =
+header_disjoint parts h e is (in_fields bad) =
     message_disjoint header_keys parts is.fields e is.message bad
-header_disjoint parts h e is (name_unreadable fs merged bad) =
+header_disjoint parts h e is (in_values fs merged (inl bad)) =
     let P : List Wire → Type 0 = λ xs. IsUtf8 (bytes_at header_field.name xs) in
     bad.0 (subst P (merges_unique parts is.fields fs is.message.0 merged) is.readable)
-header_disjoint parts h e is (name_missing fs message none reads err) =
+header_disjoint parts h e is (lacking fs message (none, reads) err) =
     is.named (ap (bytes_at header_field.name) (merges_unique parts is.fields fs is.message.0 message.0) ∙ none)
-header_disjoint parts h e is (in_specifier fs n merged last bad) =
+header_disjoint parts h e is (in_values fs merged (inr bad)) =
     let P : List Wire → Type 0 = λ xs. SaysSpecifier xs h.specifier in
-    specifier_disjoint fs h.specifier e n
-    (subst P (merges_unique parts is.fields fs is.message.0 merged) is.asked) last bad
+    specifier_disjoint fs h.specifier e (subst P (merges_unique parts is.fields fs is.message.0 merged) is.asked) bad
 
 -- a HeaderMatcher means one test
 pub header_unique : (parts : List (List ℕ)) (h k : HeaderTest) → IsHeader parts h → IsHeader parts k
@@ -252,6 +245,6 @@ pub name_fault : (parts : List (List ℕ)) (fs : List Wire) (s : Specifier) (e :
     → IsMessage header_keys parts fs → SaysSpecifier fs s
     → Utf8Fault (bytes_at header_field.name fs) e ⊎ ((e ≡ Missing) × (bytes_at header_field.name fs ≡ []))
     → HeaderFault parts e
-name_fault parts fs s e message says (inl bad) = name_unreadable fs message.0 bad
+name_fault parts fs s e message says (inl bad) = in_values fs message.0 (inl bad)
 name_fault parts fs s e message says (inr none) =
-    name_missing fs message none.1 (member_reads fs s says) none.0
+    lacking fs message (none.1, member_reads fs s says) none.0

@@ -1,6 +1,8 @@
 -- One level of a rule, from its last member and the rules in it.
 use Rattle.std.proofs.Common.{◌≡◌, ℕ, zero, suc, ◌-◌, ◌<◌, List, [], ◌∷◌, ◌++◌, ◌==◌, cond, Option, map, refl, arith, Contains, get_or, length}
 use Rattle.std.specs.Prelude.{MatchOption, Some, None}
+use Rattle.proto_wire.specs.Reading.{Never, LacksMember, OneofFault, IsUnsupported, in_values}
+use Rattle.proto_wire.proofs.Readers.{values_fault, last_bad, oneof_found, oneof_bad}
 use Rattle.proto_wire.specs.Fields.{Wire, field_view, payload_view}
 use Rattle.proto_wire.specs.Values.{len_in, payloads}
 use Rattle.proto_wire.specs.declared.field.Field.{Field}
@@ -11,7 +13,7 @@ use Rattle.proto_wire.specs.declared.refusal.Refusal.TheVariants.{Missing, Unsup
 use Rattle.rbac_match.specs.Message.{members, rule_keys}
 use Rattle.rbac_match.specs.declared.member.Member.{Member}
 use Rattle.rbac_match.specs.Formula.{Formula, Formulas, end, formula}
-use Rattle.rbac_match.specs.Rules.{AreRules, MemberSays, IsLevel, IsRule, MemberFault, LevelFault, no_member, in_member, RuleFault}
+use Rattle.rbac_match.specs.Rules.{AreRules, MemberSays, IsLevel, IsRule, MemberFault, LevelFault, RuleFault}
 use Rattle.rbac_match.specs.declared.rule.Side.{Side}
 use Rattle.rbac_match.proofs.Basics.{contains_first, contains_later}
 
@@ -59,21 +61,23 @@ module _ (side : Side) (depth : ℕ) (parts : List (List ℕ)) (fs : List Wire) 
   pub last_fault : (e : Refusal) → MatchOption (last_number (rule_keys side) fs) (e ≡ Missing)
       (λ n. (member_in (members side) n ≡ None) × (e ≡ Unsupported)) → RuleFault side depth parts e
   last_fault e fault = fault_deeper side depth parts e more
-      (elim (last_number (rule_keys side) fs) as (λ o. last_number (rule_keys side) fs ≡ o
-      → MatchOption o (e ≡ Missing) (λ n. (member_in (members side) n ≡ None) × (e ≡ Unsupported))
-      → LevelFault side (RuleFault side (depth - 1)) parts e) [
-        | None ↦ λ none missing. no_member fs message none missing
-        | Some n ↦ λ last bad. in_member fs n message.0 last (rw bad.0 bad.1)
-      ] refl fault)
+      (values_fault (rule_keys side) (LacksMember (members side))
+      (OneofFault (members side) IsUnsupported (MemberFault (RuleFault side (depth - 1)))) parts fs message e
+      (last_bad (members side) fs (MemberFault (RuleFault side (depth - 1))) e fault))
 
   module _ (n : ℕ) (member : Member) (last : last_number (rule_keys side) fs ≡ Some n) (is : member_in (members side) n ≡ Some member) where
     -- the formula that the last member's run says
     pub rule_found : (f : Formula)
         → MemberSays (IsRule side (depth - 1)) member n (member_run (rule_keys side) fs) f → IsRule side depth parts f
-    rule_found f says = rule_deeper side depth parts f more (fs, message, rw (last, is) says)
+    rule_found f says = rule_deeper side depth parts f more (
+      fs,
+      message,
+      oneof_found (members side) fs Never (MemberSays (IsRule side (depth - 1))) n member last is f says,
+    )
 
     -- what is wrong with it
     pub member_fault : (e : Refusal)
-        → MemberFault (RuleFault side (depth - 1)) (Some member) n (member_run (rule_keys side) fs) e
+        → MemberFault (RuleFault side (depth - 1)) member n (member_run (rule_keys side) fs) e
         → RuleFault side depth parts e
-    member_fault e bad = fault_deeper side depth parts e more (in_member fs n message.0 last (rw is bad))
+    member_fault e bad = fault_deeper side depth parts e more (in_values fs message.0
+        (oneof_bad (members side) fs IsUnsupported (MemberFault (RuleFault side (depth - 1))) n member last is e bad))

@@ -2,6 +2,8 @@
 use Rattle.std.proofs.Common.{◌≡◌, ◌-◌, ◌<◌, ◌==◌, ℕ, zero, suc, cond, List, [], ◌∷◌, Option, None, Some, Contains, Result, Ok, Err, IfErr, inl, inr, refl, sym, ap, subst, arith, length, map, take, get_or, ◌∙◌}
 use Rattle.std.specs.Prelude.{IsErrAnd, MatchOption}
 use Rattle.std.proofs.lemmas.Result.{err_from_is_err_and}
+use Rattle.proto_wire.specs.Reading.{IsUnsupported, in_values}
+use Rattle.proto_wire.proofs.Readers.{oneof_bad}
 use Rattle.proto_wire.specs.Fields.{Wire, field_view, payload_view}
 use Rattle.proto_wire.specs.Merge.{Merges}
 use Rattle.proto_wire.specs.Oneof.{member_run, last_number, member_in}
@@ -17,7 +19,7 @@ use Rattle.proto_wire.proofs.Places.{has_fault as fault_of_whole, shorter as fau
 use Rattle.rbac_match.specs.Leaves.{LeafFault}
 use Rattle.rbac_match.specs.Message.{members, rule_keys, set_field}
 use Rattle.rbac_match.specs.Places.{Part, rule, set, always, leaf, PartFault, part_of, IsAt, StepTo, FaultAt, PlacedOr, EachOr}
-use Rattle.rbac_match.specs.Rules.{RuleFault, SomeRuleFault, MemberFault, in_member, in_rule}
+use Rattle.rbac_match.specs.Rules.{RuleFault, SomeRuleFault, MemberFault}
 use Rattle.rbac_match.specs.declared.member.LeafKind.{LeafKind}
 use Rattle.rbac_match.specs.declared.member.Member.{Member}
 use Rattle.rbac_match.specs.declared.member.Member.TheVariants.{And, Or, Any, Not, Leaf}
@@ -49,7 +51,7 @@ is_at n (f ∷ fields) (suc i) d child within is = is_at n fields i d child (ome
 -- ---- outer parts
 
 pub member_has : (side : Side) (depth : ℕ) (member : Member) (n : ℕ) (run : List Wire) (e : Refusal)
-    → PartFault side (part_of depth member n run) e → MemberFault (RuleFault side depth) (Some member) n run e
+    → PartFault side (part_of depth member n run) e → MemberFault (RuleFault side depth) member n run e
 member_has side depth And n run e bad = bad
 member_has side depth Or n run e bad = bad
 member_has side depth Any n run e bad = bad
@@ -63,9 +65,10 @@ climb side (rule zero parts) q s e to bad = absurd to
 climb side (rule (suc depth) parts) q s e to bad =
     let fs : List Wire = to.0 in
     let own : PartFault side (part_of depth to.1 s.number _) e = rw (to.5) at bad in
-    in_member fs s.number to.2 to.3 (rw (to.4) (member_has side depth to.1 s.number _ e own))
+    in_values fs to.2 (oneof_bad (members side) fs IsUnsupported (MemberFault (RuleFault side depth)) s.number to.1 to.3 to.4 e
+    (member_has side depth to.1 s.number _ e own))
 climb side (set depth parts) q s e to bad =
-    in_rule to.0 to.1 to.2 (at_in set_field.rules to.0 s.position to.1 to.3) (rw (to.5) at bad)
+    in_values to.0 to.2 (to.1, at_in set_field.rules to.0 s.position to.1 to.3, rw (to.5) at bad)
 climb side (always n run) q s e to bad = absurd to
 climb side (leaf kind n run) q s e to bad = rw to at bad
 

@@ -2,6 +2,7 @@
 use Rattle.std.proofs.Common.{◌≡◌, ℕ, ℤ, pos, negsuc, ◌⊎◌, inl, inr, List, refl, sym, ◌∙◌, subst, arith}
 use Rattle.std.proofs.lemmas.Bool.{cases_lt}
 use Rattle.std.proofs.lemmas.Int.{ints}
+use Rattle.proto_wire.specs.Reading.{in_fields, lacking, in_values}
 use Rattle.proto_wire.specs.Values.{uint32_at, int32_at}
 use Rattle.proto_wire.specs.Fields.{Wire}
 use Rattle.proto_wire.proofs.Unique.{merges_unique}
@@ -10,7 +11,7 @@ use Rattle.proto_wire.specs.declared.refusal.Refusal.{Refusal}
 use Rattle.proto_wire.specs.declared.refusal.Refusal.TheVariants.{OutOfRange}
 use Rattle.std.specs.declared.ops.Range.{Range}
 use Rattle.rbac_match.specs.Message.{range_field, range_keys}
-use Rattle.rbac_match.specs.Ports.{IsDestinationPort, PortFault, AreBounds, IsPortRange, PortRangeFault, range_fields, no_bounds}
+use Rattle.rbac_match.specs.Ports.{IsDestinationPort, PortFault, AreBounds, IsPortRange, PortRangeFault}
 use Rattle.rbac_match.specs.private.Ports.{AreNoBounds}
 
 -- a run says a port, or a number that is none
@@ -51,18 +52,19 @@ bounds_disjoint fs span are (inr (inr none)) = omega (arith, ints, are.0, are.1,
 pub port_range_total : (parts : List (List ℕ))
     → ((span : Range ℕ) × IsPortRange parts span) ⊎ ((e : Refusal) × PortRangeFault parts e)
 port_range_total parts = elim (message_total range_keys parts) [
-  | inr bad ↦ inr (bad.0, range_fields bad.1)
+  | inr bad ↦ inr (bad.0, in_fields bad.1)
   | inl (fs, message) ↦ elim (bounds_total fs _ _ refl refl) [
     | inl some ↦ inl (some.0, (fs, message, some.1))
-    | inr none ↦ inr (OutOfRange, no_bounds fs message.0 (λ span are. bounds_disjoint fs span are none) refl)
+    | inr none ↦ inr (OutOfRange, in_values fs message.0 ((λ span are. bounds_disjoint fs span are none), refl))
   ]
 ]
 
 -- not both
 pub port_range_disjoint : (parts : List (List ℕ)) (span : Range ℕ) (e : Refusal) → IsPortRange parts span
     → PortRangeFault parts e → ⊥
-port_range_disjoint parts span e (fs, message, are) (range_fields bad) = message_disjoint range_keys parts fs e message bad
-port_range_disjoint parts span e (fs, message, are) (no_bounds gs merged none is) =
+port_range_disjoint parts span e (fs, message, are) (in_fields bad) = message_disjoint range_keys parts fs e message bad
+port_range_disjoint parts span e (fs, message, are) (lacking gs also none is) = absurd none
+port_range_disjoint parts span e (fs, message, are) (in_values gs merged (none, is)) =
     none span (subst (λ xs. AreBounds xs span) (sym (merges_unique parts gs fs merged message.0)) are)
 
 -- one range at most

@@ -1,55 +1,32 @@
 -- A rule's payloads are a rule or have a fault, never both, and they say one formula at most.
-use Rattle.std.proofs.Common.{◌≡◌, ℕ, zero, suc, ◌<◌, ◌⊎◌, inl, inr, List, [], ◌∷◌, Contains, Option, Some, None, refl, sym, ap, subst, arith, ◌∙◌}
-use Rattle.std.specs.Prelude.{IsSomeAnd}
+use Rattle.std.proofs.Common.{◌≡◌, ℕ, zero, suc, ◌<◌, ◌⊎◌, inl, inr, List, [], ◌∷◌, Contains, refl, sym, ap, subst, arith, ◌∙◌}
 use Rattle.std.proofs.lemmas.Bool.{cases_Bool, both_ways}
+use Rattle.proto_wire.specs.Reading.{OneofSays, Never, LacksMember, OneofFault, IsUnsupported, in_fields, lacking, in_values}
+use Rattle.proto_wire.proofs.ReadingLaws.{reads_total, reads_disjoint, reads_unique, oneof_total, oneof_disjoint, oneof_unique}
 use Rattle.proto_wire.specs.Fields.{Wire}
 use Rattle.proto_wire.specs.Values.{bool_at, payloads}
-use Rattle.proto_wire.specs.Oneof.{member_run, last_number, member_in}
-use Rattle.proto_wire.specs.Messages.{IsMessage}
 use Rattle.proto_wire.proofs.Unique.{merges_unique}
 use Rattle.proto_wire.proofs.Messages.{message_total, message_disjoint}
 use Rattle.proto_wire.specs.declared.refusal.Refusal.{Refusal}
-use Rattle.proto_wire.specs.declared.refusal.Refusal.TheVariants.{Missing, OutOfRange, Unsupported, TooLarge}
+use Rattle.proto_wire.specs.declared.refusal.Refusal.TheVariants.{Missing, OutOfRange, TooLarge}
 use Rattle.rbac_match.specs.Formula.{Formula, any, and_of, or_of, not_of, leaf, Formulas, end, formula}
 use Rattle.rbac_match.specs.Message.{members, rule_keys, set_field, set_keys}
-use Rattle.rbac_match.specs.Rules.{AreRules, IsSet, MemberSays, IsLevel, IsRule, SetFault, set_fields, set_empty, in_rule, MemberFault, LevelFault, rule_fields, no_member, in_member, RuleFault}
+use Rattle.rbac_match.specs.Rules.{AreRules, IsSet, MemberSays, IsLevel, IsRule, SetFault, MemberFault, LevelFault, RuleFault}
 use Rattle.rbac_match.specs.declared.member.Member.{Member}
 use Rattle.rbac_match.specs.declared.member.Member.TheVariants.{And, Or, Any, Not, Leaf}
 use Rattle.rbac_match.specs.declared.rule.Side.{Side}
 use Rattle.rbac_match.proofs.Basics.{nil_or_not, contains_first, contains_later, contains_cases}
 use Rattle.rbac_match.proofs.LeafMessages.{leaf_total, leaf_disjoint, leaf_unique}
-use Rattle.rbac_match.proofs.Oneofs.{of_last, some_last}
 
--- the value of which something holds
-some_of : {T : Type 0} (o : Option T) (P : T → Type 0) → IsSomeAnd o P → (x : T) × (o ≡ Some x) × P x
-some_of None P h = absurd h
-some_of (Some x) P h = (x, refl, h)
+-- what a level's last member says, and its faults
+abbrev Says : Side → (List (List ℕ) → Formula → Type 0) → List Wire → Formula → Type 0
+Says side Below = OneofSays (members side) Never (MemberSays Below)
 
--- a level, and its last member
-record Level (side : Side) (Below : List (List ℕ) → Formula → Type 0) (parts : List (List ℕ)) (f : Formula) : Type 0 where
-  fields : List Wire
-  message : IsMessage (rule_keys side) parts fields
-  number : ℕ
-  last : last_number (rule_keys side) fields ≡ Some number
-  member : Member
-  is : member_in (members side) number ≡ Some member
-  says : MemberSays Below member number (member_run (rule_keys side) fields) f
+abbrev Lacks : Side → List Wire → Type 0
+Lacks side = LacksMember (members side)
 
-level_of : (side : Side) (Below : List (List ℕ) → Formula → Type 0) (parts : List (List ℕ)) (f : Formula)
-    → IsLevel side Below parts f → Level side Below parts f
-level_of side Below parts f (fs, message, here) =
-    let Says : ℕ → Member → Type 0 = λ n m. MemberSays Below m n (member_run (rule_keys side) fs) f in
-    let last = some_of (last_number (rule_keys side) fs) (λ n. IsSomeAnd (member_in (members side) n) (Says n)) here in
-    let member = some_of (member_in (members side) last.0) (Says last.0) last.2 in
-    record {
-      fields = fs;
-      message = message;
-      number = last.0;
-      last = last.1;
-      member = member.0;
-      is = member.1;
-      says = member.2;
-    }
+abbrev Wrong : Side → (List (List ℕ) → Refusal → Type 0) → List Wire → Refusal → Type 0
+Wrong side Fails = OneofFault (members side) IsUnsupported (MemberFault Fails)
 
 -- of one level: each rule one level down is one or has a fault
 module _ (Below : List (List ℕ) → Formula → Type 0) (Fails : List (List ℕ) → Refusal → Type 0) where
@@ -69,12 +46,12 @@ module _ (Below : List (List ℕ) → Formula → Type 0) (Fails : List (List �
     set_total : (parts : List (List ℕ))
         → ((gs : Formulas) × IsSet Below parts gs) ⊎ ((e : Refusal) × SetFault Fails parts e)
     set_total parts = elim (message_total set_keys parts) [
-      | inr bad ↦ inr (bad.0, set_fields bad.1)
+      | inr bad ↦ inr (bad.0, in_fields bad.1)
       | inl message ↦ elim (nil_or_not (payloads set_field.rules message.0)) [
-        | inl none ↦ inr (Missing, set_empty message.0 message.1 none refl)
+        | inl none ↦ inr (Missing, lacking message.0 message.1 none refl)
         | inr some ↦ elim (rules_of_total (payloads set_field.rules message.0)) [
-          | inl rules ↦ inl (rules.0, (message.0, message.1, some, rules.1))
-          | inr bad ↦ inr (bad.2, in_rule message.0 bad.0 message.1.0 bad.1 bad.3)
+          | inl rules ↦ inl (rules.0, (message.0, message.1, (some, rules.1)))
+          | inr bad ↦ inr (bad.2, in_values message.0 message.1.0 (bad.0, bad.1, bad.3))
         ]
       ]
     ]
@@ -82,7 +59,7 @@ module _ (Below : List (List ℕ) → Formula → Type 0) (Fails : List (List �
     -- a member's run says a formula, or has a fault
     member_total : (member : Member) (n : ℕ) (run : List Wire)
         → ((f : Formula) × MemberSays Below member n run f)
-        ⊎ ((e : Refusal) × MemberFault Fails (Some member) n run e)
+        ⊎ ((e : Refusal) × MemberFault Fails member n run e)
     member_total And n run = elim (set_total (payloads n run)) [
       | inl (gs, set) ↦ inl (and_of gs, (gs, set, refl))
       | inr bad ↦ inr bad
@@ -106,24 +83,8 @@ module _ (Below : List (List ℕ) → Formula → Type 0) (Fails : List (List �
 
     level_total : (side : Side) (parts : List (List ℕ))
         → ((f : Formula) × IsLevel side Below parts f) ⊎ ((e : Refusal) × LevelFault side Fails parts e)
-    level_total side parts = elim (message_total (rule_keys side) parts) [
-      | inr bad ↦ inr (bad.0, rule_fields bad.1)
-      | inl (fs, message) ↦ elim (last_number (rule_keys side) fs) as (λ o. last_number (rule_keys side) fs ≡ o
-          → ((f : Formula) × IsLevel side Below parts f) ⊎ ((e : Refusal) × LevelFault side Fails parts e)) [
-            | None ↦ λ none. inr (Missing, no_member fs message none refl)
-            | Some n ↦ λ last. of_member fs message n last _ refl
-          ] refl
-    ]
-      where
-        of_member : (fs : List Wire) → IsMessage (rule_keys side) parts fs → (n : ℕ)
-            → last_number (rule_keys side) fs ≡ Some n → (o : Option Member) → member_in (members side) n ≡ o
-            → ((f : Formula) × IsLevel side Below parts f) ⊎ ((e : Refusal) × LevelFault side Fails parts e)
-        of_member fs message n last None is = inr (Unsupported, in_member fs n message.0 last (rw is refl))
-        of_member fs message n last (Some member) is =
-            elim (member_total member n (member_run (rule_keys side) fs)) [
-              | inr (e, bad) ↦ inr (e, in_member fs n message.0 last (rw is bad))
-              | inl (f, says) ↦ inl (f, (fs, message, rw (last, is) says))
-            ]
+    level_total side = reads_total (rule_keys side) (Says side Below) (Lacks side) (Wrong side Fails)
+        (oneof_total (members side) (MemberSays Below) (MemberFault Fails) member_total)
 
 -- a rule's payloads are a rule, or have a fault
 pub rule_total : (side : Side) (depth : ℕ) (parts : List (List ℕ))
@@ -155,18 +116,18 @@ module _ (Below : List (List ℕ) → Formula → Type 0) (Fails : List (List �
 
     set_disjoint : (parts : List (List ℕ)) (gs : Formulas) (e : Refusal) → IsSet Below parts gs
         → SetFault Fails parts e → ⊥
-    set_disjoint parts gs e (fs, message, some, are) (set_fields bad) =
+    set_disjoint parts gs e (fs, message, (some, are)) (in_fields bad) =
         message_disjoint set_keys parts fs e message bad
-    set_disjoint parts gs e (fs, message, some, are) (set_empty hs also none is) =
+    set_disjoint parts gs e (fs, message, (some, are)) (lacking hs also none is) =
         let P : List Wire → Type 0 = λ xs. payloads set_field.rules xs ≡ [] in
         some (subst P (merges_unique parts hs fs also.0 message.0) none)
-    set_disjoint parts gs e (fs, message, some, are) (in_rule hs child also here bad) =
+    set_disjoint parts gs e (fs, message, (some, are)) (in_values hs also (child, here, bad)) =
         let P : List Wire → Type 0 = λ xs. Contains (payloads set_field.rules xs) child in
         rules_of_disjoint (payloads set_field.rules fs) gs child e are
         (subst P (merges_unique parts hs fs also message.0) here) bad
 
     member_disjoint : (member : Member) (n : ℕ) (run : List Wire) (f : Formula) (e : Refusal)
-        → MemberSays Below member n run f → MemberFault Fails (Some member) n run e → ⊥
+        → MemberSays Below member n run f → MemberFault Fails member n run e → ⊥
     member_disjoint And n run f e (gs, set, is) bad = set_disjoint (payloads n run) gs e set bad
     member_disjoint Or n run f e (gs, set, is) bad = set_disjoint (payloads n run) gs e set bad
     member_disjoint Any n run f e says bad = both_ways (bool_at n run) bad.0 says.0
@@ -175,19 +136,8 @@ module _ (Below : List (List ℕ) → Formula → Type 0) (Fails : List (List �
 
     level_disjoint : (side : Side) (parts : List (List ℕ)) (f : Formula) (e : Refusal)
         → IsLevel side Below parts f → LevelFault side Fails parts e → ⊥
-    level_disjoint side parts f e one (rule_fields bad) =
-        message_disjoint (rule_keys side) parts one.0 e one.1 bad
-    level_disjoint side parts f e one (no_member gs also none is) =
-        let level = level_of side Below parts f one in
-        some_last (rule_keys side) parts level.fields level.number level.message.0 level.last gs also.0 none
-    level_disjoint side parts f e one (in_member gs n also last bad) =
-        let level = level_of side Below parts f one in
-        let P : List Wire → ℕ → Type 0 = λ xs k.
-        MemberFault Fails (member_in (members side) k) k (member_run (rule_keys side) xs) e in
-        let here = of_last (rule_keys side) parts level.fields level.number level.message.0 level.last
-        P gs n also last bad in
-        member_disjoint level.member level.number (member_run (rule_keys side) level.fields) f e level.says
-        (rw level.is at here)
+    level_disjoint side = reads_disjoint (rule_keys side) (Says side Below) (Lacks side) (Wrong side Fails)
+        (oneof_disjoint (members side) (MemberSays Below) (MemberFault Fails) member_disjoint)
 
 -- a rule has no fault
 pub rule_disjoint : (side : Side) (depth : ℕ) (parts : List (List ℕ)) (f : Formula) (e : Refusal)
@@ -219,9 +169,9 @@ module _ (Below : List (List ℕ) → Formula → Type 0) (below_unique : (parts
 
   set_unique : (parts : List (List ℕ)) (fs gs : Formulas) → IsSet Below parts fs → IsSet Below parts gs
       → fs ≡ gs
-  set_unique parts fs gs a b =
-      let P : List Wire → Type 0 = λ xs. AreRules Below (payloads set_field.rules xs) gs in
-      rules_of_unique (payloads set_field.rules a.0) fs gs a.3 (subst P (merges_unique parts b.0 a.0 b.1.0 a.1.0) b.3)
+  set_unique parts fs gs (xs, message, (some, are)) (ys, also, (some', are')) =
+      let P : List Wire → Type 0 = λ zs. AreRules Below (payloads set_field.rules zs) gs in
+      rules_of_unique (payloads set_field.rules xs) fs gs are (subst P (merges_unique parts ys xs also.0 message.0) are')
 
   member_unique : (member : Member) (n : ℕ) (run : List Wire) (f g : Formula)
       → MemberSays Below member n run f → MemberSays Below member n run g → f ≡ g
@@ -233,17 +183,8 @@ module _ (Below : List (List ℕ) → Formula → Type 0) (below_unique : (parts
 
   level_unique : (side : Side) (parts : List (List ℕ)) (f g : Formula) → IsLevel side Below parts f
       → IsLevel side Below parts g → f ≡ g
-  level_unique side parts f g x y =
-      let a = level_of side Below parts f x in
-      let b = level_of side Below parts g y in
-      let P : List Wire → ℕ → Type 0 = λ xs k. (member_in (members side) k ≡ Some b.member)
-      × MemberSays Below b.member k (member_run (rule_keys side) xs) g in
-      let here = of_last (rule_keys side) parts a.fields a.number a.message.0 a.last P
-      b.fields b.number b.message.0 b.last (b.is, b.says) in
-      let whole : Some b.member ≡ Some a.member = sym here.0 ∙ a.is in
-      let one : b.member ≡ a.member = cc in
-      let Q : Member → Type 0 = λ m. MemberSays Below m a.number (member_run (rule_keys side) a.fields) g in
-      member_unique a.member a.number (member_run (rule_keys side) a.fields) f g a.says (subst Q one here.1)
+  level_unique side = reads_unique (rule_keys side) (Says side Below)
+      (oneof_unique (members side) (MemberSays Below) Never (λ x y a b. absurd a) member_unique)
 
 -- a rule says one formula
 pub rule_unique : (side : Side) (depth : ℕ) (parts : List (List ℕ)) (f g : Formula)

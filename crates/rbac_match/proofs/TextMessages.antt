@@ -2,6 +2,7 @@
 use Rattle.std.proofs.Common.{◌≡◌, ◌≢◌, ℕ, ◌⊎◌, inl, inr, List, [], Option, Some, None, refl, sym, ◌∙◌}
 use Rattle.std.specs.Map.{keys_of}
 use Rattle.std.specs.Prelude.{MatchOption}
+use Rattle.proto_wire.specs.Reading.{in_fields, lacking, in_values}
 use Rattle.proto_wire.specs.Values.{bool_at, bytes_at}
 use Rattle.proto_wire.specs.Fields.{Wire}
 use Rattle.proto_wire.specs.Messages.{IsMessage}
@@ -9,7 +10,7 @@ use Rattle.proto_wire.proofs.Messages.{message_total, message_disjoint}
 use Rattle.proto_wire.specs.declared.refusal.Refusal.{Refusal}
 use Rattle.proto_wire.specs.declared.refusal.Refusal.TheVariants.{BadText, Missing, OutOfRange, Unsupported}
 use Rattle.proto_wire.specs.Oneof.{last_number, member_in}
-use Rattle.rbac_match.specs.Text.{TextTest, string_members, string_field, string_keys, IsFilled, IsSought, IsTextMatcher, SoughtFault, TextFault, text_fields, no_pattern, in_pattern}
+use Rattle.rbac_match.specs.Text.{TextTest, string_members, string_field, string_keys, IsFilled, IsSought, IsTextMatcher, SoughtFault, TextFault}
 use Rattle.rbac_match.specs.declared.text.Pattern.{Pattern}
 use Rattle.rbac_match.specs.declared.text.Pattern.TheVariants.{Exact, Prefix, Suffix, Contains}
 use Rattle.rbac_match.proofs.Basics.{nil_or_not, utf8_total}
@@ -49,9 +50,9 @@ last_total : (parts : List (List ℕ)) (fs : List Wire) (n : ℕ) → IsMessage 
     → (o : Option Pattern) → member_in string_members n ≡ o
     → ((t : TextTest) × IsTextMatcher parts t) ⊎ ((e : Refusal) × TextFault parts e)
 last_total parts fs n message last None is =
-    inr (Unsupported, in_pattern fs n message.0 last (rw is refl))
+    inr (Unsupported, in_values fs message.0 (n, last, rw is refl))
 last_total parts fs n message last (Some pattern) is = elim (sought_total pattern (bytes_at n fs)) [
-  | inr (e, bad) ↦ inr (e, in_pattern fs n message.0 last (rw is bad))
+  | inr (e, bad) ↦ inr (e, in_values fs message.0 (n, last, rw is bad))
   | inl accepted ↦ inl (
     record { pattern = pattern; sought = bytes_at n fs; ignore_case = bool_at string_field.ignore_case fs },
     record {
@@ -71,10 +72,10 @@ last_total parts fs n message last (Some pattern) is = elim (sought_total patter
 pub text_total : (parts : List (List ℕ))
     → ((t : TextTest) × IsTextMatcher parts t) ⊎ ((e : Refusal) × TextFault parts e)
 text_total parts = elim (message_total string_keys parts) [
-  | inr bad ↦ inr (bad.0, text_fields bad.1)
+  | inr bad ↦ inr (bad.0, in_fields bad.1)
   | inl (fs, message) ↦ elim (last_number (keys_of string_members) fs) as (λ o. last_number (keys_of string_members) fs ≡ o
       → ((t : TextTest) × IsTextMatcher parts t) ⊎ ((e : Refusal) × TextFault parts e)) [
-        | None ↦ λ none. inr (Missing, no_pattern fs message none refl)
+        | None ↦ λ none. inr (Missing, lacking fs message none refl)
         | Some n ↦ λ last. last_total parts fs n message last _ refl
       ] refl
 ]
@@ -82,11 +83,11 @@ text_total parts = elim (message_total string_keys parts) [
 -- a StringMatcher that is a test has no fault
 pub text_disjoint : (parts : List (List ℕ)) (t : TextTest) (e : Refusal) → IsTextMatcher parts t
     → TextFault parts e → ⊥
-text_disjoint parts t e is (text_fields bad) =
+text_disjoint parts t e is (in_fields bad) =
     message_disjoint string_keys parts is.fields e is.message bad
-text_disjoint parts t e is (no_pattern gs also none err) =
+text_disjoint parts t e is (lacking gs also none err) =
     some_last (keys_of string_members) parts is.fields is.number is.message.0 is.last gs also.0 none
-text_disjoint parts t e is (in_pattern gs m also last bad) =
+text_disjoint parts t e is (in_values gs also (m, last, bad)) =
     let P : List Wire → ℕ → Type 0 = λ hs k. SoughtFault (member_in string_members k) (bytes_at k hs) e in
     let here = of_last (keys_of string_members) parts is.fields is.number is.message.0 is.last P gs m also last bad in
     sought_disjoint t.pattern t.sought e is.accepted (rw (is.pattern, ← is.sought) at here)
@@ -134,6 +135,6 @@ module _ (parts : List (List ℕ)) (fs : List Wire) (message : IsMessage string_
   pattern_fault e fault = elim (last_number (keys_of string_members) fs) as (λ o.
       last_number (keys_of string_members) fs ≡ o → MatchOption o (e ≡ Missing) (λ n.
       SoughtFault (member_in string_members n) (bytes_at n fs) e) → TextFault parts e) [
-        | None ↦ λ none missing. no_pattern fs message none missing
-        | Some n ↦ λ last bad. in_pattern fs n message.0 last bad
+        | None ↦ λ none missing. lacking fs message none missing
+        | Some n ↦ λ last bad. in_values fs message.0 (n, last, bad)
       ] refl fault

@@ -1,11 +1,8 @@
 -- Tests of the peer's certificate: Envoy v3 `config/rbac/v3/rbac.proto`, Principal.Authenticated.
 use Rattle.std.specs.Option.{option_or, option_map_or}
-use Rattle.std.specs.Prelude.{◌≡◌, ◌≢◌, ℕ, Bool, true, false, List, [], ◌∷◌, Option, Some, None}
+use Rattle.std.specs.Prelude.{ℕ, Bool, true, false, List, [], ◌∷◌, Option, Some, None}
 use Rattle.attributes.specs.Conn.{Facts}
-use Rattle.proto_wire.specs.Fields.{Wire}
-use Rattle.proto_wire.specs.Values.{payloads}
-use Rattle.proto_wire.specs.Merge.{Merges}
-use Rattle.proto_wire.specs.Messages.{IsMessage, MessageFault}
+use Rattle.proto_wire.specs.Reading.{Reads, ReadFault, Never, IsOptional, OptionalFault}
 use Rattle.proto_wire.specs.declared.refusal.Refusal.{Refusal}
 use Rattle.proto_wire.specs.declared.key.Key.{Key}
 use Rattle.proto_wire.specs.Keys.{len_key}
@@ -19,21 +16,16 @@ authenticated_field = record { principal_name = 2 }
 abbrev pub authenticated_keys : List Key
 authenticated_keys = len_key authenticated_field.principal_name ∷ []
 
--- the meaning of the payloads of principal_name; without payloads, every name is accepted
-abbrev pub SaysName : List (List ℕ) → Option TextTest → Type 0
-SaysName names None = names ≡ []
-SaysName names (Some test) = (names ≢ []) × IsTextMatcher names test
-
--- the payloads merge to an Authenticated that means this test of the name, if it has one
+-- the payloads merge to an Authenticated that means this test of the name; without a principal_name, every
+-- name is accepted
 abbrev pub IsAuthenticated : List (List ℕ) → Option TextTest → Type 0
-IsAuthenticated parts name = (fs : List Wire) × IsMessage authenticated_keys parts fs
-    × SaysName (payloads authenticated_field.principal_name fs) name
+IsAuthenticated =
+    Reads authenticated_keys (IsOptional IsTextMatcher authenticated_field.principal_name)
 
 -- a fault of an Authenticated: in its fields, or in its principal_name
-pub data AuthenticatedFault (parts : List (List ℕ)) (e : Refusal) : Type 0 where
-  authenticated_fields : MessageFault authenticated_keys parts e → AuthenticatedFault parts e
-  in_name : (fs : List Wire) → Merges parts fs → payloads authenticated_field.principal_name fs ≢ []
-      → TextFault (payloads authenticated_field.principal_name fs) e → AuthenticatedFault parts e
+abbrev pub AuthenticatedFault : List (List ℕ) → Refusal → Type 0
+AuthenticatedFault =
+    ReadFault authenticated_keys Never (OptionalFault TextFault authenticated_field.principal_name)
 
 -- the peer's name: the first that is present of its URI SAN, its DNS SAN and its subject
 abbrev pub peer_name : Facts → Option (List ℕ)

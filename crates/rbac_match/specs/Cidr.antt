@@ -5,6 +5,7 @@ use Rattle.std.specs.Prelude.{◌≡◌, ◌⊎◌, ℕ, ◌<◌, ◌≤◌, Lis
 use Rattle.attributes.specs.Address.{IsIpText, Range, width_of}
 use Rattle.attributes.specs.Conn.{Facts}
 use Rattle.attributes.specs.declared.address.Ip.{Ip}
+use Rattle.proto_wire.specs.Reading.{ReadFault, Never}
 use Rattle.proto_wire.specs.Values.{bytes_at, uint32_at, payloads, Utf8Fault}
 use Rattle.proto_wire.specs.Fields.{Wire}
 use Rattle.proto_wire.specs.Merge.{Merges}
@@ -51,18 +52,17 @@ abbrev pub AddressFault : List ℕ → Refusal → Type 0
 AddressFault bytes e = Utf8Fault bytes e
     ⊎ ((e ≡ OutOfRange) × IsUtf8 bytes × ((ip : Ip) → ¬ IsIpText bytes ip))
 
--- a fault of a CidrRange: in its fields, in its address, in its length, or a length of more bits than the
--- address has
-pub data CidrFault (parts : List (List ℕ)) (e : Refusal) : Type 0 where
-  cidr_fields : MessageFault cidr_keys parts e → CidrFault parts e
-  in_address : (fs : List Wire) → Merges parts fs
-      → AddressFault (bytes_at cidr_field.address_prefix fs) e → CidrFault parts e
-  in_length : (fs : List Wire) → Merges parts fs
-      → MessageFault uint32_keys (payloads cidr_field.prefix_len fs) e → CidrFault parts e
-  too_long : (fs ls : List Wire) (ip : Ip) → Merges parts fs
-      → IsIpText (bytes_at cidr_field.address_prefix fs) ip
+-- a fault of a CidrRange's address or of its length, or a length of more bits than the address has
+pub data CidrWrong (fs : List Wire) (e : Refusal) : Type 0 where
+  in_address : AddressFault (bytes_at cidr_field.address_prefix fs) e → CidrWrong fs e
+  in_length : MessageFault uint32_keys (payloads cidr_field.prefix_len fs) e → CidrWrong fs e
+  too_long : (ls : List Wire) (ip : Ip) → IsIpText (bytes_at cidr_field.address_prefix fs) ip
       → Merges (payloads cidr_field.prefix_len fs) ls
-      → width_of ip < uint32_at uint32_field.value ls → e ≡ OutOfRange → CidrFault parts e
+      → width_of ip < uint32_at uint32_field.value ls → e ≡ OutOfRange → CidrWrong fs e
+
+-- a fault of a CidrRange
+abbrev pub CidrFault : List (List ℕ) → Refusal → Type 0
+CidrFault = ReadFault cidr_keys Never CidrWrong
 
 -- the address of the connection that the rule tests
 abbrev pub source_ip : AddressSource → Facts → Option Ip

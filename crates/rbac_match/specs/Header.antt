@@ -1,15 +1,14 @@
 -- Tests of a request's header: Envoy v3 `config/route/v3/route_components.proto`, HeaderMatcher.
-use Rattle.std.specs.Prelude.{◌≡◌, ◌≢◌, ℕ, Bool, true, false, not, if◌then◌else◌, List, [], ◌∷◌, Option, Some, None}
+use Rattle.std.specs.Prelude.{◌≡◌, ◌≢◌, ◌⊎◌, ℕ, Bool, true, false, not, if◌then◌else◌, List, [], ◌∷◌, Option, Some, None}
 use Rattle.std.specs.Map.{keys_of}
 use Rattle.std.specs.Option.{is_some, option_or, option_map_or}
 use Rattle.std.specs.Str.{IsUtf8, str_to_ascii_lowercase}
+use Rattle.proto_wire.specs.Reading.{ReadFault, OneofFault, IsUnsupported}
 use Rattle.proto_wire.specs.Values.{bool_at, bytes_at, payloads, Utf8Fault}
 use Rattle.proto_wire.specs.Fields.{Wire}
 use Rattle.proto_wire.specs.Oneof.{member_run, last_number, member_in}
-use Rattle.proto_wire.specs.Merge.{Merges}
 use Rattle.proto_wire.specs.Messages.{IsMessage, MessageFault}
 use Rattle.proto_wire.specs.declared.refusal.Refusal.{Refusal}
-use Rattle.proto_wire.specs.declared.refusal.Refusal.TheVariants.{Missing, Unsupported}
 use Rattle.proto_wire.specs.declared.key.Key.{Key}
 use Rattle.proto_wire.specs.Keys.{len_key, varint_key}
 use Rattle.rbac_match.specs.Message.{range_keys}
@@ -109,13 +108,11 @@ pub record IsHeader (parts : List (List ℕ)) (h : HeaderTest) : Type 0 where
 -- ---- the faults
 
 -- a fault in the run of this member, which has this number
-abbrev pub HeaderMemberFault : Option HeaderMember → ℕ → List Wire → Refusal → Type 0
-HeaderMemberFault None n run e = e ≡ Unsupported
-HeaderMemberFault (Some (members.Text pattern)) n run e =
-    SoughtFault (Some pattern) (bytes_at n run) e
-HeaderMemberFault (Some members.Range) n run e = MessageFault range_keys (payloads n run) e
-HeaderMemberFault (Some members.Present) n run e = ⊥
-HeaderMemberFault (Some members.Matcher) n run e = TextFault (payloads n run) e
+abbrev pub HeaderMemberFault : HeaderMember → ℕ → List Wire → Refusal → Type 0
+HeaderMemberFault (members.Text pattern) n run e = SoughtFault (Some pattern) (bytes_at n run) e
+HeaderMemberFault members.Range n run e = MessageFault range_keys (payloads n run) e
+HeaderMemberFault members.Present n run e = ⊥
+HeaderMemberFault members.Matcher n run e = TextFault (payloads n run) e
 
 -- if the last member is itself a text, it is UTF-8
 abbrev pub MemberReads : List Wire → Type 0
@@ -125,13 +122,8 @@ MemberReads fs = (n : ℕ) (pattern : Pattern) → last_number (keys_of specifie
 
 -- a fault of a HeaderMatcher: in its fields, its name or its last member. A missing name is a fault only if
 -- the last member's own text is UTF-8
-pub data HeaderFault (parts : List (List ℕ)) (e : Refusal) : Type 0 where
-  header_fields : MessageFault header_keys parts e → HeaderFault parts e
-  name_unreadable : (fs : List Wire) → Merges parts fs → Utf8Fault (bytes_at header_field.name fs) e
-      → HeaderFault parts e
-  name_missing : (fs : List Wire) → IsMessage header_keys parts fs
-      → bytes_at header_field.name fs ≡ [] → MemberReads fs → e ≡ Missing → HeaderFault parts e
-  in_specifier : (fs : List Wire) (n : ℕ) → Merges parts fs
-      → last_number (keys_of specifiers) fs ≡ Some n
-      → HeaderMemberFault (member_in specifiers n) n (member_run (keys_of specifiers) fs) e
-      → HeaderFault parts e
+abbrev pub HeaderFault : List (List ℕ) → Refusal → Type 0
+HeaderFault = ReadFault header_keys
+    (λ fs. (bytes_at header_field.name fs ≡ []) × MemberReads fs)
+    (λ fs e. Utf8Fault (bytes_at header_field.name fs) e
+    ⊎ OneofFault specifiers IsUnsupported HeaderMemberFault fs e)

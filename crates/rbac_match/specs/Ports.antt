@@ -2,10 +2,9 @@
 -- `destination_port_range`), `type/v3/range.proto` (Int32Range: start is in, end is not).
 use Rattle.std.specs.Prelude.{◌≡◌, ℕ, pos, ◌<◌, ◌≤◌, List}
 use Rattle.std.specs.declared.ops.Range.{Range}
+use Rattle.proto_wire.specs.Reading.{Reads, ReadFault, Never}
 use Rattle.proto_wire.specs.Values.{uint32_at, int32_at}
 use Rattle.proto_wire.specs.Fields.{Wire}
-use Rattle.proto_wire.specs.Merge.{Merges}
-use Rattle.proto_wire.specs.Messages.{IsMessage, MessageFault}
 use Rattle.proto_wire.specs.declared.refusal.Refusal.{Refusal}
 use Rattle.proto_wire.specs.declared.refusal.Refusal.TheVariants.{OutOfRange}
 use Rattle.rbac_match.specs.Message.{range_field, range_keys}
@@ -25,10 +24,9 @@ AreBounds fs span = (int32_at range_field.start fs ≡ pos span.start)
 
 -- the parts merge to an Int32Range of these ports
 abbrev pub IsPortRange : List (List ℕ) → Range ℕ → Type 0
-IsPortRange parts span = (fs : List Wire) × IsMessage range_keys parts fs × AreBounds fs span
+IsPortRange = Reads range_keys AreBounds
 
 -- a fault of an Int32Range of ports: in its fields, or in its bounds
-pub data PortRangeFault (parts : List (List ℕ)) (e : Refusal) : Type 0 where
-  range_fields : MessageFault range_keys parts e → PortRangeFault parts e
-  no_bounds : (fs : List Wire) → Merges parts fs → ((span : Range ℕ) → ¬ (AreBounds fs span))
-      → e ≡ OutOfRange → PortRangeFault parts e
+abbrev pub PortRangeFault : List (List ℕ) → Refusal → Type 0
+PortRangeFault = ReadFault range_keys Never
+    (λ fs e. ((span : Range ℕ) → ¬ (AreBounds fs span)) × (e ≡ OutOfRange))

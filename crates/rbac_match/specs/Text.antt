@@ -3,12 +3,12 @@ use Rattle.std.specs.Prelude.{◌≡◌, ◌≢◌, ℕ, Bool, nat_eq, ◌||◌,
 use Rattle.std.specs.List.{starts_with, ends_with}
 use Rattle.std.specs.Map.{keys_of}
 use Rattle.std.specs.Str.{IsUtf8, bytes_eq, str_to_ascii_lowercase}
+use Rattle.proto_wire.specs.Reading.{ReadFault, LacksMember}
 use Rattle.proto_wire.specs.Values.{bool_at, bytes_at, Utf8Fault}
 use Rattle.proto_wire.specs.Fields.{Wire}
-use Rattle.proto_wire.specs.Merge.{Merges}
-use Rattle.proto_wire.specs.Messages.{IsMessage, MessageFault}
+use Rattle.proto_wire.specs.Messages.{IsMessage}
 use Rattle.proto_wire.specs.declared.refusal.Refusal.{Refusal}
-use Rattle.proto_wire.specs.declared.refusal.Refusal.TheVariants.{Missing, OutOfRange, Unsupported}
+use Rattle.proto_wire.specs.declared.refusal.Refusal.TheVariants.{OutOfRange, Unsupported}
 use Rattle.proto_wire.specs.declared.key.Key.{Key}
 use Rattle.proto_wire.specs.Keys.{len_key, varint_key}
 use Rattle.proto_wire.specs.Oneof.{last_number, member_in}
@@ -90,10 +90,7 @@ SoughtFault (Some pattern) bytes e =
     Utf8Fault bytes e ⊎ ((e ≡ OutOfRange) × ¬ IsFilled pattern bytes)
 
 -- a fault of a StringMatcher: in its fields, that it has no member, or in its last member
-pub data TextFault (parts : List (List ℕ)) (e : Refusal) : Type 0 where
-  text_fields : MessageFault string_keys parts e → TextFault parts e
-  no_pattern : (fs : List Wire) → IsMessage string_keys parts fs
-      → last_number (keys_of string_members) fs ≡ None → e ≡ Missing → TextFault parts e
-  in_pattern : (fs : List Wire) (n : ℕ) → Merges parts fs
-      → last_number (keys_of string_members) fs ≡ Some n
-      → SoughtFault (member_in string_members n) (bytes_at n fs) e → TextFault parts e
+abbrev pub TextFault : List (List ℕ) → Refusal → Type 0
+TextFault = ReadFault string_keys (LacksMember string_members)
+    (λ fs e. (n : ℕ) × (last_number (keys_of string_members) fs ≡ Some n)
+    × SoughtFault (member_in string_members n) (bytes_at n fs) e)

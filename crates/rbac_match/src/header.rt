@@ -1,12 +1,12 @@
 //! Tests of a request's header (`envoy.config.route.v3.HeaderMatcher`), and the reading of their messages.
 
-ghost use Rattle.std.specs.Prelude.{◌≡◌, ◌≢◌, ◌⊎◌, ℕ, [], Some, None, IfOk, IfErr, map};
-ghost use Rattle.std.specs.Map.{keys_of};
+ghost use Rattle.std.specs.Prelude.{◌≡◌, ◌≢◌, ◌⊎◌, [], Some, None, IfOk, IfErr, map};
 ghost use Rattle.std.specs.Str.{IsUtf8};
 ghost use Rattle.proto_wire.specs.Fields.{field_view};
 ghost use Rattle.proto_wire.specs.Merge.{parts_view};
-ghost use Rattle.proto_wire.specs.Oneof.{member_run, last_number, member_in};
+ghost use Rattle.proto_wire.specs.Oneof.{member_in};
 ghost use Rattle.proto_wire.specs.Places.{FaultOr};
+ghost use Rattle.proto_wire.specs.Reading.{OneofFault, IsUnsupported};
 ghost use Rattle.proto_wire.specs.Values.{bytes_at, Utf8Fault};
 ghost use Rattle.proto_wire.specs.declared.refusal.Refusal.TheVariants.{Missing, Unsupported};
 ghost use Rattle.rbac_match.specs.Header.{header_field, specifiers, SaysMember, SaysSpecifier, IsHeader, HeaderMemberFault, HeaderFault};
@@ -140,9 +140,8 @@ fn header_name<'a>(fields: &[Field<'a>]) -> Result<&'a str, Refusal>
 /// What the last member requires; without a member, the header must be present.
 fn read_specifier<'a>(alloc: Global, fields: &[Field<'a>]) -> Result<Specifier<'a>, Fault>
     ensures found { IfOk result (λ s. SaysSpecifier (map field_view fields.now) s) }
-    ensures fault { let fs = map field_view fields.now in IfErr result (FaultOr (λ e.
-        (n : ℕ) × (last_number (keys_of specifiers) fs ≡ Some n)
-        × HeaderMemberFault (member_in specifiers n) n (member_run (keys_of specifiers) fs) e)) }
+    ensures fault { IfErr result (FaultOr
+        (OneofFault specifiers IsUnsupported HeaderMemberFault (map field_view fields.now))) }
 {
     let Some(number) = last_number(fields, &SPECIFIERS) else {
         return Ok(Specifier::Present(true));
@@ -178,7 +177,7 @@ fn read_header_member<'a>(
 ) -> Result<Specifier<'a>, Fault>
     ensures found { IfOk result (λ s. SaysMember member number (map field_view run.now) s) }
     ensures fault { IfErr result (FaultOr
-        (HeaderMemberFault (Some member) number (map field_view run.now))) }
+        (HeaderMemberFault member number (map field_view run.now))) }
 {
     match member {
         HeaderMember::Text(pattern) => {

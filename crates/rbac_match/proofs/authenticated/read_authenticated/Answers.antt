@@ -1,10 +1,11 @@
 use Rattle.std.proofs.Common.{ℕ, ◌≡◌, ◌≢◌, ◌<◌, List, [], map, length, arith}
 use Rattle.std.proofs.lemmas.Grind.{common_steps}
+use Rattle.proto_wire.specs.Reading.{in_fields, in_values}
 use Rattle.proto_wire.specs.Fields.{Wire, field_view}
 use Rattle.proto_wire.specs.Merge.{parts_view}
 use Rattle.proto_wire.specs.Messages.{IsMessage, MessageFault}
 use Rattle.proto_wire.specs.Values.{payloads}
-use Rattle.rbac_match.specs.Authenticated.{authenticated_field, authenticated_keys, AuthenticatedFault, authenticated_fields, in_name}
+use Rattle.rbac_match.specs.Authenticated.{authenticated_field, authenticated_keys, AuthenticatedFault}
 use Rattle.rbac_match.specs.Text.{TextFault}
 use Rattle.rbac_match.proofs.Basics.{payloads_some}
 use Rattle.rbac_match.proofs.Exits.{exit_memory_or, placed_fault}
@@ -15,7 +16,7 @@ returns-in_err-fields-clause-fault c =
     let parts : List (List ℕ) = parts_view c.args.parts.now in
     exit_memory_or (MessageFault authenticated_keys parts) (AuthenticatedFault parts)
     c.from_residual.result _ c.from_residual.ensures.1
-    c.in_err-fields.ensures.fault (λ e bad. authenticated_fields bad)
+    c.in_err-fields.ensures.fault (λ e bad. in_fields bad)
 
 pub returns-in_err-inside_field-clause-fault : goal.returns-in_err-inside_field-clause-fault
 returns-in_err-inside_field-clause-fault c =
@@ -31,4 +32,4 @@ returns-in_err-inside_field-clause-fault c =
     c.from_residual-in_err-inside_field.result _ c.from_residual-in_err-inside_field.ensures.1
     (placed_fault (TextFault (payloads authenticated_field.principal_name fs))
     (TextFault (payloads authenticated_field.principal_name fs)) 2 0 c.read_text_matcher.result _ c.in_err-inside_field.ensures
-    (rw given at c.read_text_matcher.ensures.fault) (λ e bad. bad)) (λ e bad. in_name fs message.0 some bad)
+    (rw given at c.read_text_matcher.ensures.fault) (λ e bad. bad)) (λ e bad. in_values fs message.0 (some, bad))

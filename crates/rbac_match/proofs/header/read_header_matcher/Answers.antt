@@ -1,14 +1,12 @@
-use Rattle.std.proofs.Common.{ℕ, ◌≡◌, ◌≢◌, ◌⊎◌, List, [], map, refl}
+use Rattle.std.proofs.Common.{ℕ, ◌≡◌, ◌≢◌, ◌⊎◌, List, [], map, refl, inr}
 use Rattle.std.specs.Str.{IsUtf8}
+use Rattle.proto_wire.specs.Reading.{OneofFault, IsUnsupported, in_fields, in_values}
 use Rattle.proto_wire.specs.Values.{bytes_at, Utf8Fault}
 use Rattle.proto_wire.specs.declared.refusal.Refusal.TheVariants.{Missing}
 use Rattle.proto_wire.specs.Fields.{Wire, field_view}
 use Rattle.proto_wire.specs.Merge.{parts_view}
 use Rattle.proto_wire.specs.Messages.{IsMessage, MessageFault}
-use Rattle.proto_wire.specs.Oneof.{member_run, last_number, member_in}
-use Rattle.std.specs.Map.{keys_of}
-use Rattle.std.specs.Prelude.{Some}
-use Rattle.rbac_match.specs.Header.{header_field, specifiers, header_keys, HeaderMemberFault, SaysSpecifier, HeaderFault, header_fields, in_specifier}
+use Rattle.rbac_match.specs.Header.{header_field, specifiers, header_keys, HeaderMemberFault, SaysSpecifier, HeaderFault}
 use Rattle.rbac_match.proofs.Exits.{exit_memory_or, exit_known, at_found, at_fault}
 use Rattle.rbac_match.proofs.HeaderMessages.{name_fault}
 use Rattle.rbac_match.proofs.header.read_header_matcher.Goals as goal
@@ -18,18 +16,17 @@ returns-in_err-fields-clause-fault c =
     let parts : List (List ℕ) = parts_view c.args.parts.now in
     exit_memory_or (MessageFault header_keys parts) (HeaderFault parts) c.from_residual.result _
     c.from_residual.ensures.1 c.in_err-fields.ensures.fault
-    (λ e bad. header_fields bad)
+    (λ e bad. in_fields bad)
 
 pub returns-in_err-specifier-clause-fault : goal.returns-in_err-specifier-clause-fault
 returns-in_err-specifier-clause-fault c =
     let parts : List (List ℕ) = parts_view c.args.parts.now in
     let fs : List Wire = map field_view c.in_ok-fields.fields.items in
     let message : IsMessage header_keys parts fs = c.in_ok-fields.ensures.found in
-    exit_memory_or (λ e. (n : ℕ) × (last_number (keys_of specifiers) fs ≡ Some n)
-    × HeaderMemberFault (member_in specifiers n) n (member_run (keys_of specifiers) fs) e) (HeaderFault parts)
+    exit_memory_or (OneofFault specifiers IsUnsupported HeaderMemberFault fs) (HeaderFault parts)
     c.from_residual-in_err-specifier.result _ c.from_residual-in_err-specifier.ensures.1
     (rw c.deref.ensures at c.in_err-specifier.ensures.fault)
-    (λ e bad. in_specifier fs bad.0 message.0 bad.1 bad.2)
+    (λ e bad. in_values fs message.0 (inr bad))
 
 pub returns-in_err-name-clause-fault : goal.returns-in_err-name-clause-fault
 returns-in_err-name-clause-fault c =

@@ -1,5 +1,6 @@
 use Rattle.std.proofs.Common.{◌≡◌, ◌≢◌, ◌-◌, ℕ, List, [], None, map, take, refl, sym, ap, inr, ◌∙◌}
 use Rattle.std.proofs.lemmas.Result.{MatchResult-weaker, on_ok_weaker}
+use Rattle.proto_wire.specs.Reading.{in_fields, lacking}
 use Rattle.proto_wire.specs.Fields.{Wire, field_view}
 use Rattle.proto_wire.specs.Merge.{parts_view}
 use Rattle.proto_wire.specs.Messages.{IsMessage, MessageFault}
@@ -11,7 +12,7 @@ use Rattle.rbac_match.specs.Formula.{any, and_of, or_of, not_of, leaf}
 use Rattle.rbac_match.specs.declared.list.Joint.TheVariants.{And, Or, Not}
 use Rattle.rbac_match.specs.Message.{members, rule_keys, set_field, set_keys}
 use Rattle.rbac_match.specs.Places.{rule, set, always, part_of, PlacedOr, EachOr}
-use Rattle.rbac_match.specs.Rules.{IsRule, SetFault, RuleFault, rule_fields, set_fields, set_empty}
+use Rattle.rbac_match.specs.Rules.{IsRule, SetFault, RuleFault}
 use Rattle.proto_wire.proofs.Exits.{memory_or_weaker}
 use Rattle.proto_wire.proofs.Messages.{no_steps}
 use Rattle.rbac_match.proofs.Exits.{exit_with, placed_found}
@@ -64,7 +65,7 @@ read_rule_at-returns-in_err-fields-clause-fault t c =
     exit_here c.args.side (rule c.args.depth parts) c.from_residual-in_err-fields.result _ c.from_residual-in_err-fields.ensures.1
     (no_steps _ _ c.in_err-fields.field-0.0 c.in_err-fields.ensures.place)
     (memory_or_weaker (MessageFault (rule_keys c.args.side) parts) (RuleFault c.args.side c.args.depth parts) _
-    (λ e bad. fault_deeper c.args.side c.args.depth parts e c.in_ok-require_level.ensures.found (rule_fields bad))
+    (λ e bad. fault_deeper c.args.side c.args.depth parts e c.in_ok-require_level.ensures.found (in_fields bad))
     (rw c.rule_keys.ensures at c.in_err-fields.ensures.fault))
 
 pub read_rule_at-returns-in_err-last-clause-fault : goal.read_rule_at-returns-in_err-last-clause-fault
@@ -101,7 +102,7 @@ read_set-returns-in_err-fields-clause-fault t c =
     exit_here c.args.side (set c.args.depth parts) c.from_residual.result _ c.from_residual.ensures.1
     (no_steps _ _ c.in_err-fields.field-0.0 c.in_err-fields.ensures.place)
     (memory_or_weaker (MessageFault set_keys parts) (SetFault (RuleFault c.args.side c.args.depth) parts) _
-    (λ e bad. set_fields bad) c.in_err-fields.ensures.fault)
+    (λ e bad. in_fields bad) c.in_err-fields.ensures.fault)
 
 pub read_set-returns-in_err-require_payload-clause-fault : goal.read_set-returns-in_err-require_payload-clause-fault
 read_set-returns-in_err-require_payload-clause-fault t c =
@@ -110,7 +111,7 @@ read_set-returns-in_err-require_payload-clause-fault t c =
     let message : IsMessage set_keys parts fs = c.in_ok-fields.ensures.found in
     let fault = rw c.deref.ensures at c.in_err-require_payload.ensures.fault in
     exit_own c.args.side (set c.args.depth parts) c.from_residual-in_err-require_payload.result _
-    c.from_residual-in_err-require_payload.ensures.1 (set_empty fs message fault.0 fault.1)
+    c.from_residual-in_err-require_payload.ensures.1 (lacking fs message fault.0 fault.1)
 
 pub read_set-returns-clause-fault : goal.read_set-returns-clause-fault
 read_set-returns-clause-fault t c =
@@ -157,7 +158,7 @@ read_set-returns-clause-found t c =
     let message : IsMessage set_keys parts fs = c.in_ok-fields.ensures.found in
     let some : payloads set_field.rules fs ≢ [] = rw c.deref.ensures at c.in_ok-require_payload.ensures.found in
     on_ok_weaker c.read_each.result
-    (λ h. (h.0, (fs, message, some, rw c.deref-2.ensures at h.1), h.2)) c.read_each.ensures.found
+    (λ h. (h.0, (fs, message, (some, rw c.deref-2.ensures at h.1)), h.2)) c.read_each.ensures.found
 
 pub read_each-loop-index-init : goal.read_each-loop-index-init
 read_each-loop-index-init t c = adds_none (IsRule c.args.side c.args.depth) c.args.list.now

@@ -1,9 +1,10 @@
 use Rattle.std.proofs.Common.{ℕ, List, map}
 use Rattle.rbac_match.proofs.Exits.{exit_memory_or, exit_known}
+use Rattle.proto_wire.specs.Reading.{in_fields}
 use Rattle.proto_wire.specs.Fields.{Wire, field_view}
 use Rattle.proto_wire.specs.Merge.{parts_view}
 use Rattle.proto_wire.specs.Messages.{IsMessage, MessageFault}
-use Rattle.rbac_match.specs.Text.{string_keys, TextFault, text_fields}
+use Rattle.rbac_match.specs.Text.{string_keys, TextFault}
 use Rattle.rbac_match.proofs.TextMessages.{text_found, pattern_fault}
 use Rattle.rbac_match.proofs.text.read_text_matcher.Goals as goal
 
@@ -12,7 +13,7 @@ returns-in_err-fields-clause-fault c =
     let parts : List (List ℕ) = parts_view c.args.parts.now in
     exit_memory_or (MessageFault string_keys parts) (TextFault parts) c.from_residual.result _
     c.from_residual.ensures.1 c.in_err-fields.ensures.fault
-    (λ e bad. text_fields bad)
+    (λ e bad. in_fields bad)
 
 pub returns-in_err-pattern-clause-fault : goal.returns-in_err-pattern-clause-fault
 returns-in_err-pattern-clause-fault c =
