@@ -7,7 +7,7 @@ use Rattle.std.proofs.lemmas.Grind.{merely}
 use Rattle.std.proofs.lemmas.Slice.Eq.{bytes_eq-Decides}
 use Rattle.attributes.specs.Limits.{LimitsValue}
 use Rattle.xds_wire.specs.Discovery.{RequestMessage, ResponseMessage, ExtensionMessage}
-use Rattle.xds_wire.specs.Envelope.{SomeOf}
+use Rattle.proto_wire.specs.Merge.{SomeOf}
 use Rattle.ads.specs.Config.{ConfigValue, FilterValue}
 use Rattle.ads.specs.Answer.{Accepted, AdmittedValue, Answers, ack, nack, no_memory, Gives, named, replaced}
 use Rattle.ads.specs.Client.{AreAnswered, WasAdmitted, WasAdmittedAs, policies_at}

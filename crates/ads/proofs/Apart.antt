@@ -7,7 +7,7 @@ use Rattle.attributes.specs.Limits.{LimitsValue}
 use Rattle.proto_wire.specs.declared.refusal.Refusal.{Refusal}
 use Rattle.rbac_policy.specs.Admission.{Admissible}
 use Rattle.rbac_policy.proofs.Totality.{bytes_disjoint}
-use Rattle.xds_wire.specs.Envelope.{SomeOf}
+use Rattle.proto_wire.specs.Merge.{SomeOf}
 use Rattle.xds_wire.specs.Discovery.{AnyMessage, ExtensionMessage, ResponseMessage}
 use Rattle.xds_wire.proofs.DiscoveryLaws.{extension_disjoint, extension_unique}
 use Rattle.ads.specs.Config.{ConfigValue, FilterValue}

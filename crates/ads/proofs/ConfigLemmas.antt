@@ -7,7 +7,7 @@ use Rattle.std.specs.declared.alloc.Global.{Global}
 use Rattle.std.proofs.lemmas.List.{map-append}
 use Rattle.std.proofs.lemmas.Slice.Eq.{bytes_eq-Decides}
 use Rattle.indexmap.specs.IndexMap.{insert_entry}
-use Rattle.xds_wire.specs.Envelope.{SomeOf}
+use Rattle.proto_wire.specs.Merge.{SomeOf}
 use Rattle.ads.specs.Config.{FilterValue, HasName, Repeats}
 use Rattle.ads.specs.declared.config.Filter.{Filter}
 use Rattle.ads.specs.Views.{filter_view, filters_view, entries_view, entry_view}

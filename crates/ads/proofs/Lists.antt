@@ -5,7 +5,7 @@ use Rattle.std.proofs.lemmas.List.{map_more, map-append}
 use Rattle.std.proofs.lemmas.Result.{err_from_is_err_and}
 use Rattle.std.specs.Prelude.{Result, IfErr, IsErrAnd}
 use Rattle.proto_wire.specs.declared.refusal.Refusal.{Refusal}
-use Rattle.xds_wire.specs.Envelope.{SomeOf}
+use Rattle.proto_wire.specs.Merge.{SomeOf}
 use Rattle.ads.specs.Answer.{FirstOf}
 use Rattle.ads.specs.Judgements.{FirstAt}
 pub use Rattle.xds_wire.proofs.Each.{zip_push}

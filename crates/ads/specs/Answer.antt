@@ -7,7 +7,7 @@ use Rattle.attributes.specs.Limits.{LimitsValue}
 use Rattle.proto_wire.specs.Refusal.{number_of}
 use Rattle.proto_wire.specs.declared.refusal.Refusal.{Refusal}
 use Rattle.xds_wire.specs.Discovery.{AnyMessage, RequestMessage, ResponseMessage, ExtensionMessage, NodeMessage, StatusMessage, IsExtension, ExtensionFault}
-use Rattle.xds_wire.specs.Envelope.{SomeOf}
+use Rattle.proto_wire.specs.Merge.{SomeOf}
 use Rattle.cel_tree.specs.Checked.{CelChecked}
 use Rattle.rbac_policy.specs.Condition.{Program}
 use Rattle.rbac_policy.specs.Filter.{Filter}

@@ -8,7 +8,7 @@ use Rattle.proto_wire.specs.Places.{FaultOr}
 use Rattle.proto_wire.specs.declared.placed.Fault.{Fault as Placed}
 use Rattle.proto_wire.specs.declared.refusal.Refusal.{Refusal}
 use Rattle.xds_wire.specs.Discovery.{ExtensionMessage, IsResponse, RequestMessage, ResponseFault, ResponseMessage}
-use Rattle.xds_wire.specs.Envelope.{SomeOf}
+use Rattle.proto_wire.specs.Merge.{SomeOf}
 use Rattle.xds_wire.specs.Frames.{Cut, Tail}
 use Rattle.rbac_policy.specs.Admission.{Fault}
 use Rattle.rbac_policy.specs.Places.{PlacedOr, of_filter}

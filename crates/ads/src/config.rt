@@ -3,7 +3,7 @@
 ghost use Rattle.std.specs.Prelude.{◌≡◌, ◌⊎◌, ◌<◌, ◌≤◌, length, map, IfOk, IfErr, OnOk, MatchBool};
 ghost use Rattle.std.specs.List.{AllByRecursion};
 ghost use Rattle.std.specs.String.{string_bytes};
-ghost use Rattle.xds_wire.specs.Envelope.{SomeOf};
+ghost use Rattle.proto_wire.specs.Merge.{SomeOf};
 ghost use Rattle.ads.specs.Config.{FilterIsAtFault, IsFilter, IsSound, IsAtFault, Repeats, HasName};
 ghost use Rattle.ads.specs.declared.config.ConfigFault.TheVariants.{NoFilter, TooManyFilters, DoubledName, BadName, BadBudget, Memory};
 ghost use Rattle.ads.specs.Views.{filter_view, filters_view, entries_view};

@@ -1,7 +1,7 @@
 -- Names of a list: one at a place, and none up to a place.
 use Rattle.std.proofs.Common.{ℕ, zero, suc, ◌+◌, ◌<◌, ◌⊎◌, inl, inr, List, [], ◌∷◌, ◌++◌, length, map, take, get_or, arith}
 use Rattle.std.proofs.lemmas.List.{map_more}
-use Rattle.xds_wire.specs.Envelope.{SomeOf}
+use Rattle.proto_wire.specs.Merge.{SomeOf}
 
 -- the element at a place is one of the elements
 pub some_at : {A B : Type 0} (P : B → Type 0) (view : A → B) (xs : List A) (i : ℕ) (d : A)

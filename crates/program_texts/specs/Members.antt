@@ -1,7 +1,7 @@
 -- The members of a JSON object, by their names (RFC 8259 section 4).
 use Rattle.std.specs.Prelude.{◌≡◌, ℕ, List, [], ◌∷◌, Option, unwrap_or}
 use Rattle.serde_json.specs.Data.{Data, Items, no_items, item, Members, no_members, member, object}
-use Rattle.xds_wire.specs.Envelope.{SomeOf}
+use Rattle.proto_wire.specs.Merge.{SomeOf}
 use Rattle.program_texts.specs.Facts.{IsNumber, BothOrNone}
 
 -- the name of each member is one of these

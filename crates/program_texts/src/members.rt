@@ -3,7 +3,7 @@ ghost use Rattle.std.specs.Prelude.{◌≡◌, ◌≢◌, ◌↔◌, ℕ, List, 
 ghost use Rattle.serde_json.specs.Data.{Items, array, number, string, unsigned};
 ghost use Rattle.serde_json.specs.Find.{get};
 ghost use Rattle.serde_json.specs.View.{items_view, members_view, view};
-ghost use Rattle.xds_wire.specs.Envelope.{SomeOf};
+ghost use Rattle.proto_wire.specs.Merge.{SomeOf};
 ghost use Rattle.program_texts.specs.Members.{AreAmong, HasOnly, IsNumberOr};
 
 use serde_json::{Map, Value};

@@ -4,7 +4,7 @@ use Rattle.std.specs.List.{AllByRecursion, AllZip}
 use Rattle.std.proofs.lemmas.Slice.Eq.{bytes_eq-Decides}
 use Rattle.proto_wire.specs.declared.refusal.Refusal.{Refusal}
 use Rattle.xds_wire.specs.Discovery.{AnyMessage, ExtensionMessage, RequestMessage}
-use Rattle.xds_wire.specs.Envelope.{SomeOf}
+use Rattle.proto_wire.specs.Merge.{SomeOf}
 use Rattle.xds_wire.specs.Frames.{frame_of}
 use Rattle.xds_wire.proofs.DiscoveryLaws.{extension_unique}
 use Rattle.ads.specs.Config.{ConfigValue, FilterValue}

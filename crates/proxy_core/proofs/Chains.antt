@@ -8,7 +8,7 @@ use Rattle.std.proofs.Props.{props}
 use Rattle.std.proofs.lemmas.Grind.{merely}
 use Rattle.attributes.specs.Limits.{InLimits, LimitsValue}
 use Rattle.attributes.specs.Request.{RequestValue}
-use Rattle.xds_wire.specs.Envelope.{SomeOf}
+use Rattle.proto_wire.specs.Merge.{SomeOf}
 use Rattle.cel_tree.specs.Checked.{CelChecked}
 use Rattle.rbac_policy.specs.Admission.{IsAdmittedAs}
 use Rattle.rbac_policy.specs.Filter.{Filter}

@@ -1,7 +1,7 @@
 -- Which rules were acknowledged last: xDS REST and gRPC protocol, "ACK and NACK".
 use Rattle.std.specs.Prelude.{◌≡◌, ◌⊎◌, ℕ, Option, Some, None, List, [], ◌∷◌, ◌++◌}
 use Rattle.xds_wire.specs.Discovery.{ExtensionMessage, RequestMessage, ResponseMessage}
-use Rattle.xds_wire.specs.Envelope.{SomeOf}
+use Rattle.proto_wire.specs.Merge.{SomeOf}
 use Rattle.ads.specs.Config.{ConfigValue, FilterValue}
 use Rattle.ads.specs.Answer.{HoldsFilter, IsNamed, IsResource, ack_of}
 use Rattle.ads.specs.Client.{IsFrameThen}

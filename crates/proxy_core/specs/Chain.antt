@@ -2,7 +2,7 @@
 -- filter may have no policies yet, and that memory may run out, is this project's own.
 use Rattle.std.specs.Prelude.{◌≡◌, ◌⊎◌, ℕ, Bool, true, false, Option, Some, None, List, [], ◌∷◌, ◌++◌, map, codes, bytes_eq, MatchBool, if◌then◌else◌}
 use Rattle.attributes.specs.Request.{RequestValue}
-use Rattle.xds_wire.specs.Envelope.{SomeOf}
+use Rattle.proto_wire.specs.Merge.{SomeOf}
 use Rattle.ads.specs.Answer.{AcceptedOf}
 use Rattle.http_front.specs.Answer.{ReplyValue, answer_of}
 use Rattle.http_front.specs.declared.answer.Case.{Case}

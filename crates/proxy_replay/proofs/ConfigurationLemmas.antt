@@ -12,7 +12,7 @@ use Rattle.serde_json.specs.Data.{Data, Items, array, string}
 use Rattle.serde_json.specs.Find.{get}
 use Rattle.serde_json.specs.View.{items_of, items_view, view}
 use Rattle.serde_json.specs.declared.value.Value.{Value}
-use Rattle.xds_wire.specs.Envelope.{SomeOf}
+use Rattle.proto_wire.specs.Merge.{SomeOf}
 use Rattle.proxy_replay.specs.Configuration.{AreDeclared, DeclaresLimits, IsConfig, IsFilterObject, limit_names}
 use Rattle.program_texts.specs.Facts.{IsNumber, BothOrNone}
 use Rattle.program_texts.specs.Members.{HasOnly, IsNumberOr, values}

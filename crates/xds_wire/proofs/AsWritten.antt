@@ -4,8 +4,9 @@ use Rattle.proto_wire.specs.Fields.{Wire}
 use Rattle.proto_wire.specs.Merge.{Merges}
 use Rattle.proto_wire.specs.Values.{payloads}
 use Rattle.proto_wire.proofs.Unique.{merges_unique}
-use Rattle.xds_wire.specs.Envelope.{IsEnvelope, IsMerged}
-use Rattle.xds_wire.specs.Discovery.{IsStatus, RequestMessage, AreRequestFields, IsRequest, ResponseMessage, AreResponseFields, IsResponse, request_version_info_field, request_resource_names_field, request_type_url_field, request_response_nonce_field, request_error_detail_field, response_version_info_field, response_type_url_field, response_nonce_field}
+use Rattle.proto_wire.specs.Reading.{IsOptional}
+use Rattle.xds_wire.specs.Envelope.{IsEnvelope}
+use Rattle.xds_wire.specs.Discovery.{IsStatus, RequestMessage, AreRequestFields, IsRequest, ResponseMessage, AreResponseFields, IsResponse, request_field, response_field}
 use Rattle.xds_wire.specs.Written.{AreOptional, StatusWritten, RequestWritten, ResponseWritten}
 use Rattle.xds_wire.proofs.GroupValues.{bytes_back, strings_own, one_len}
 use Rattle.xds_wire.proofs.ReadBack.{merges_one, request_row, request_own, response_row, response_own}
@@ -19,7 +20,7 @@ read_fields Table fs bytes m written (gs, merged, is) =
 -- a message is read where one was written
 merged_some : {M N : Type 0} (Is : List (List ℕ) → M → Type 0) (Written : N → List ℕ → Type 0) (k : ℕ)
     → (k == k) ≡ true → (fs group : List Wire) (o : Option N) (p : Option M)
-    → payloads k fs ≡ payloads k group → AreOptional Written k o group → IsMerged Is k fs p
+    → payloads k fs ≡ payloads k group → AreOptional Written k o group → IsOptional Is k fs p
     → (p ≡ None) ↔ (o ≡ None)
 merged_some Is Written k is fs group None None same none is' = ((λ e. refl), (λ e. refl))
 merged_some Is Written k is fs group None (Some m) same none (some, is') =
@@ -37,11 +38,11 @@ request_as_written m n bytes w read =
     let fs : List Wire = request_row m w.node w.error_detail in
     let own = request_own m bytes w in
     let is = read_fields AreRequestFields fs bytes n (merges_one fs bytes w.spells) read in (
-      is.version_info.0 ∙ sym (bytes_back request_version_info_field refl fs m.version_info own.of_version_info),
-      is.resource_names.0 ∙ own.of_resource_names ∙ strings_own request_resource_names_field refl m.resource_names,
-      is.type_url.0 ∙ sym (bytes_back request_type_url_field refl fs m.type_url own.of_type_url),
-      is.response_nonce.0 ∙ sym (bytes_back request_response_nonce_field refl fs m.response_nonce own.of_response_nonce),
-      merged_some IsStatus StatusWritten request_error_detail_field refl fs w.error_detail m.error_detail n.error_detail
+      is.version_info.0 ∙ sym (bytes_back request_field.version_info refl fs m.version_info own.of_version_info),
+      is.resource_names.0 ∙ own.of_resource_names ∙ strings_own request_field.resource_names refl m.resource_names,
+      is.type_url.0 ∙ sym (bytes_back request_field.type_url refl fs m.type_url own.of_type_url),
+      is.response_nonce.0 ∙ sym (bytes_back request_field.response_nonce refl fs m.response_nonce own.of_response_nonce),
+      merged_some IsStatus StatusWritten request_field.error_detail refl fs w.error_detail m.error_detail n.error_detail
           own.of_error_detail w.error_fields is.error_detail,
     )
 
@@ -52,7 +53,7 @@ response_as_written m n bytes w read =
     let fs : List Wire = response_row m w.resources in
     let own = response_own m bytes w in
     let is = read_fields AreResponseFields fs bytes n (merges_one fs bytes w.spells) read in (
-      is.version_info.0 ∙ sym (bytes_back response_version_info_field refl fs m.version_info own.of_version_info),
-      is.type_url.0 ∙ sym (bytes_back response_type_url_field refl fs m.type_url own.of_type_url),
-      is.nonce.0 ∙ sym (bytes_back response_nonce_field refl fs m.nonce own.of_nonce),
+      is.version_info.0 ∙ sym (bytes_back response_field.version_info refl fs m.version_info own.of_version_info),
+      is.type_url.0 ∙ sym (bytes_back response_field.type_url refl fs m.type_url own.of_type_url),
+      is.nonce.0 ∙ sym (bytes_back response_field.nonce refl fs m.nonce own.of_nonce),
     )

@@ -3,8 +3,7 @@ use Rattle.std.proofs.Common.{◌≡◌, ℕ, zero, suc, ◌+◌, ◌<◌, inl, 
 use Rattle.std.specs.Borrow.{Bor}
 use Rattle.std.specs.List.{AllZip}
 use Rattle.std.proofs.lemmas.List.{map_more, map-append}
-use Rattle.proto_wire.specs.Merge.{parts_view}
-use Rattle.xds_wire.specs.Envelope.{SomeOf}
+use Rattle.proto_wire.specs.Merge.{parts_view, SomeOf}
 
 -- the element at a place is one of the elements
 pub some_part : (P : List ℕ → Type 0) (slices : List (Bor (List ℕ))) (i : ℕ) (d : Bor (List ℕ))

@@ -1,14 +1,16 @@
 -- Payloads are an envelope or have a fault, never both, and they are one at most, where that holds of its fields.
-use Rattle.std.proofs.Common.{◌≡◌, ◌≢◌, ℕ, ◌⊎◌, inl, inr, Option, Some, None, List, [], ◌∷◌, refl, sym, ap, ap₂, subst, ◌∙◌}
+use Rattle.std.proofs.Common.{◌≡◌, ℕ, ◌⊎◌, inl, inr, List, [], ◌∷◌, refl, sym, ap₂, subst, ◌∙◌}
 use Rattle.std.specs.Prelude.{IsUtf8}
 use Rattle.std.specs.List.{AllZip, AllByRecursion}
 use Rattle.proto_wire.specs.Fields.{Wire}
-use Rattle.proto_wire.specs.Values.{payloads, bytes_at, Utf8Fault}
+use Rattle.proto_wire.specs.Values.{payloads, bytes_at, Utf8Fault, StringFault}
 use Rattle.proto_wire.specs.declared.refusal.Refusal.{Refusal}
 use Rattle.proto_wire.specs.declared.refusal.Refusal.TheVariants.{BadWire, BadText}
 use Rattle.proto_wire.proofs.Unique.{merges_unique, merges_disjoint, merges_total}
 use Rattle.proto_wire.proofs.Basics.{utf8_total}
-use Rattle.xds_wire.specs.Envelope.{IsEnvelope, EnvelopeFault, not_whole, in_fields, SomeOf, IsString, StringFault, AreStrings, StringsFault, IsMerged, MergedFault, AreRepeated, RepeatedFault}
+use Rattle.proto_wire.proofs.OptionalLaws.{IsTotal, IsDisjoint, IsUnique}
+use Rattle.proto_wire.specs.Merge.{SomeOf}
+use Rattle.xds_wire.specs.Envelope.{IsEnvelope, EnvelopeFault, not_whole, in_fields, IsString, AreStrings, StringsFault, AreRepeated, RepeatedFault}
 
 -- ---- strings
 
@@ -61,20 +63,6 @@ pub strings_unique : (k : ℕ) (fs : List Wire) (ts us : List (List ℕ)) → Ar
     → AreStrings k fs us → ts ≡ us
 strings_unique k fs ts us (is, all) (is', all') = is ∙ sym is'
 
--- ---- what is known of a message
-
--- payloads are it, or have a fault
-abbrev pub IsTotal : {M : Type 0} → (List (List ℕ) → M → Type 0) → (List (List ℕ) → Refusal → Type 0) → Type 0
-IsTotal {M} Is F = (parts : List (List ℕ)) → ((m : M) × Is parts m) ⊎ ((e : Refusal) × F parts e)
-
--- they never are both
-abbrev pub IsDisjoint : {M : Type 0} → (List (List ℕ) → M → Type 0) → (List (List ℕ) → Refusal → Type 0) → Type 0
-IsDisjoint {M} Is F = (parts : List (List ℕ)) (m : M) (e : Refusal) → Is parts m → F parts e → ⊥
-
--- they are one at most
-abbrev pub IsUnique : {M : Type 0} → (List (List ℕ) → M → Type 0) → Type 0
-IsUnique {M} Is = (parts : List (List ℕ)) (m n : M) → Is parts m → Is parts n → m ≡ n
-
 -- ---- envelopes
 
 pub envelope_total : {M : Type 0} (Table : List Wire → M → Type 0) (F : List Wire → Refusal → Type 0)
@@ -100,40 +88,6 @@ pub envelope_unique : {M : Type 0} (Table : List Wire → M → Type 0)
     → ((fs : List Wire) (m n : M) → Table fs m → Table fs n → m ≡ n) → IsUnique (IsEnvelope Table)
 envelope_unique Table table parts m n (fs, merged, is) (gs, also, is') =
     table fs m n is (subst (λ xs. Table xs n) (merges_unique parts gs fs also merged) is')
-
--- ---- messages that are there once or not at all
-
-nil_total : (xs : List (List ℕ)) → (xs ≡ []) ⊎ (xs ≢ [])
-nil_total [] = inl refl
-nil_total (x ∷ xs) = inr (λ none. absurd cc)
-
-pub merged_total : {M : Type 0} (Is : List (List ℕ) → M → Type 0) (F : List (List ℕ) → Refusal → Type 0)
-    → IsTotal Is F → (k : ℕ) (fs : List Wire)
-    → ((o : Option M) × IsMerged Is k fs o) ⊎ ((e : Refusal) × MergedFault F k fs e)
-merged_total Is F total k fs = elim (nil_total (payloads k fs)) [
-  | inl none ↦ inl (None, none)
-  | inr some ↦ elim (total (payloads k fs)) [
-    | inl (m, is) ↦ inl (Some m, (some, is))
-    | inr (e, bad) ↦ inr (e, (some, bad))
-  ]
-]
-
-pub merged_disjoint : {M : Type 0} (Is : List (List ℕ) → M → Type 0)
-    (F : List (List ℕ) → Refusal → Type 0)
-    → IsDisjoint Is F → (k : ℕ) (fs : List Wire) (o : Option M) (e : Refusal)
-    → IsMerged Is k fs o → MergedFault F k fs e → ⊥
-merged_disjoint Is F disjoint k fs None e none (some, bad) = some none
-merged_disjoint Is F disjoint k fs (Some m) e (some, is) (some', bad) =
-    disjoint (payloads k fs) m e is bad
-
-pub merged_unique : {M : Type 0} (Is : List (List ℕ) → M → Type 0) → IsUnique Is → (k : ℕ)
-    (fs : List Wire) (o p : Option M)
-    → IsMerged Is k fs o → IsMerged Is k fs p → o ≡ p
-merged_unique Is unique k fs None None none none' = refl
-merged_unique Is unique k fs None (Some n) none (some, is) = absurd (some none)
-merged_unique Is unique k fs (Some m) None (some, is) none = absurd (some none)
-merged_unique Is unique k fs (Some m) (Some n) (some, is) (some', is') =
-    ap Some (unique (payloads k fs) m n is is')
 
 -- ---- repeated messages
 

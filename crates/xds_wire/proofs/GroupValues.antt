@@ -7,7 +7,8 @@ use Rattle.std.proofs.lemmas.Bool.{cases_Bool, eqb-true}
 use Rattle.proto_wire.specs.Fields.{Wire, varint, len}
 use Rattle.proto_wire.specs.Values.{varints, payloads, last_of, bytes_at, varint_at, int32_at}
 use Rattle.proto_wire.specs.Shortest.{field_of}
-use Rattle.xds_wire.specs.Envelope.{IsString, AreStrings, IsMerged, AreRepeated}
+use Rattle.proto_wire.specs.Reading.{IsOptional}
+use Rattle.xds_wire.specs.Envelope.{IsString, AreStrings, AreRepeated}
 use Rattle.xds_wire.specs.Written.{string_fields, strings_fields, int32_fields, AreOptional, AreEach}
 
 module _ (k : ℕ) (is : (k == k) ≡ true) where
@@ -50,7 +51,7 @@ module _ (k : ℕ) (is : (k == k) ≡ true) where
   pub merged_back : {M : Type 0} (Is : List (List ℕ) → M → Type 0) (Written : M → List ℕ → Type 0)
       (Sound : M → Type 0) → ReadsBack Is Written Sound → (fs group : List Wire) (o : Option M)
       → payloads k fs ≡ payloads k group → AreOptional Written k o group → IfSome o Sound
-      → IsMerged Is k fs o
+      → IsOptional Is k fs o
   merged_back Is Written Sound back fs group None same none sound = same ∙ ap (payloads k) none
   merged_back Is Written Sound back fs group (Some m) same (bytes, written, whole) sound =
       let own : payloads k fs ≡ bytes ∷ [] = same ∙ ap (payloads k) whole ∙ one_len bytes in

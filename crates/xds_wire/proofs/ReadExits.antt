@@ -1,15 +1,15 @@
 -- What a reader of an envelope passes on from the readers of its parts.
-use Rattle.std.proofs.Common.{◌≡◌, ◌≢◌, inr, List, [], ◌∷◌, ℕ, ◌<◌, length, get_or, refl, ◌∙◌}
+use Rattle.std.proofs.Common.{◌≡◌, inr, List, ℕ, ◌<◌, length, get_or}
 use Rattle.std.specs.Borrow.{Bor}
 use Rattle.std.specs.Prelude.{Result, IfOk, IfErr, IsErrAnd}
 use Rattle.std.proofs.lemmas.Result.{IfOk-weaker, IfErr-weaker}
 use Rattle.proto_wire.specs.Fields.{Wire}
-use Rattle.proto_wire.specs.Merge.{Merges, parts_view}
+use Rattle.proto_wire.specs.Merge.{Merges, parts_view, SomeOf}
 use Rattle.proto_wire.specs.Messages.{PartsFault}
 use Rattle.proto_wire.specs.Refusal.{MemoryOr}
 use Rattle.proto_wire.specs.declared.refusal.Refusal.{Refusal}
 use Rattle.proto_wire.proofs.Exits.{exit_memory_or}
-use Rattle.xds_wire.specs.Envelope.{IsEnvelope, EnvelopeFault, MergedFault, SomeOf, not_whole, in_fields}
+use Rattle.xds_wire.specs.Envelope.{IsEnvelope, EnvelopeFault, not_whole, in_fields}
 use Rattle.xds_wire.proofs.Each.{some_part}
 use Rattle.proto_wire.specs.Values.{payloads}
 
@@ -43,21 +43,6 @@ pub last_fault : {T : Type 0} (F : List Wire → Refusal → Type 0) (parts : Li
 last_fault F parts fs r merged fault =
     IfErr-weaker r (F fs) (MemoryOr (EnvelopeFault F parts))
     (λ e bad. inr (in_fields fs merged bad)) fault
-
--- slices of which none has bytes are none
-parts_none : (slices : List (Bor (List ℕ))) → parts_view slices ≡ [] → slices ≡ []
-parts_none [] none = refl
-parts_none (s ∷ slices) none = absurd cc
-
--- at a `?` on the reader of a message that is there
-pub exit_merged : (F : List (List ℕ) → Refusal → Type 0) (k : ℕ) (fs : List Wire)
-    (slices : List (Bor (List ℕ))) → parts_view slices ≡ payloads k fs → slices ≢ [] → {T : Type 0}
-    (r : Result T Refusal) (e : Refusal) → IsErrAnd r (λ y. y ≡ e) → MemoryOr (F (parts_view slices)) e
-    → IfErr r (MemoryOr (MergedFault F k fs))
-exit_merged F k fs slices same some r e left fault =
-    let fault' : MemoryOr (F (payloads k fs)) e = rw (← same) fault in
-    exit_memory_or (F (payloads k fs)) (MergedFault F k fs) r e left fault'
-    (λ d bad. ((λ none. some (parts_none slices (same ∙ none))), bad))
 
 -- at a `?` on the reader of one payload among others
 pub exit_each : (P : List ℕ → Refusal → Type 0) (slices : List (Bor (List ℕ))) (i : ℕ)

@@ -1,9 +1,9 @@
 -- Messages whose unknown fields are skipped, and the values of their fields: Protocol Buffers encoding
 -- guide, "Last One Wins", "Repeated Elements" and "Message Structure".
-use Rattle.std.specs.Prelude.{◌≡◌, ◌≢◌, ℕ, Option, Some, None, ◌⊎◌, List, [], ◌∷◌, IsUtf8}
+use Rattle.std.specs.Prelude.{◌≡◌, ℕ, List, [], ◌∷◌, IsUtf8}
 use Rattle.std.specs.List.{AllZip, AllByRecursion}
 use Rattle.proto_wire.specs.Fields.{Wire}
-use Rattle.proto_wire.specs.Merge.{Merges}
+use Rattle.proto_wire.specs.Merge.{Merges, SomeOf}
 use Rattle.proto_wire.specs.Messages.{PartsFault}
 use Rattle.proto_wire.specs.Values.{payloads, bytes_at, Utf8Fault}
 use Rattle.proto_wire.specs.declared.refusal.Refusal.{Refusal}
@@ -18,18 +18,9 @@ pub data EnvelopeFault (F : List Wire → Refusal → Type 0) (parts : List (Lis
     not_whole : PartsFault parts e → EnvelopeFault F parts e
     in_fields : (fs : List Wire) → Merges parts fs → F fs e → EnvelopeFault F parts e
 
--- some element has this property
-abbrev pub SomeOf : {A : Type 0} → (A → Type 0) → List A → Type 0
-SomeOf P [] = ⊥
-SomeOf P (x ∷ xs) = P x ⊎ SomeOf P xs
-
 -- the last string of this number; empty if there is none
 abbrev pub IsString : ℕ → List Wire → List ℕ → Type 0
 IsString k fs text = (text ≡ bytes_at k fs) × IsUtf8 text
-
--- that string is not UTF-8
-abbrev pub StringFault : ℕ → List Wire → Refusal → Type 0
-StringFault k fs e = Utf8Fault (bytes_at k fs) e
 
 -- the strings of this number, in order
 abbrev pub AreStrings : ℕ → List Wire → List (List ℕ) → Type 0
@@ -38,15 +29,6 @@ AreStrings k fs texts = (texts ≡ payloads k fs) × AllByRecursion IsUtf8 texts
 -- one of those strings is not UTF-8
 abbrev pub StringsFault : ℕ → List Wire → Refusal → Type 0
 StringsFault k fs e = SomeOf (λ bytes. Utf8Fault bytes e) (payloads k fs)
-
--- the optional message of this number: none without a field; otherwise all payloads merge
-abbrev pub IsMerged : {M : Type 0} → (List (List ℕ) → M → Type 0) → ℕ → List Wire → Option M → Type 0
-IsMerged Is k fs None = payloads k fs ≡ []
-IsMerged Is k fs (Some m) = (payloads k fs ≢ []) × Is (payloads k fs) m
-
--- there is a field of this number, and its payloads have a fault
-abbrev pub MergedFault : (List (List ℕ) → Refusal → Type 0) → ℕ → List Wire → Refusal → Type 0
-MergedFault F k fs e = (payloads k fs ≢ []) × F (payloads k fs) e
 
 -- the messages of this number, in order
 abbrev pub AreRepeated : {M : Type 0} → (List (List ℕ) → M → Type 0) → ℕ → List Wire → List M → Type 0

@@ -5,7 +5,7 @@ use Rattle.std.specs.Int.{w32, w64, cast_unsigned}
 use Rattle.std.specs.List.{AllByRecursion, flat_map}
 use Rattle.proto_wire.specs.Fields.{Wire, varint, len}
 use Rattle.proto_wire.specs.Shortest.{Shortest, field_of}
-use Rattle.xds_wire.specs.Discovery.{AnyMessage, StatusMessage, NodeMessage, RequestMessage, ResponseMessage, ExtensionMessage, any_type_url_field, any_value_field, status_code_field, status_message_field, node_id_field, node_cluster_field, request_version_info_field, request_node_field, request_resource_names_field, request_type_url_field, request_response_nonce_field, request_error_detail_field, response_version_info_field, response_resources_field, response_type_url_field, response_nonce_field, extension_name_field, extension_typed_config_field}
+use Rattle.xds_wire.specs.Discovery.{AnyMessage, StatusMessage, NodeMessage, RequestMessage, ResponseMessage, ExtensionMessage, any_field, status_field, node_field, request_field, response_field, extension_field}
 
 -- the field of a string or of bytes; none for the empty one, which is the default
 abbrev pub string_fields : ℕ → List ℕ → List Wire
@@ -41,44 +41,44 @@ SpellsGroups groups bytes = Shortest (flat_map (λ fs. fs) groups) bytes
 -- the bytes that are written for an Any
 abbrev pub AnyWritten : AnyMessage → List ℕ → Type 0
 AnyWritten m bytes = SpellsGroups
-    (string_fields any_type_url_field m.type_url ∷ string_fields any_value_field m.value ∷ []) bytes
+    (string_fields any_field.type_url m.type_url ∷ string_fields any_field.value m.value ∷ []) bytes
 
 -- the bytes that are written for a status
 abbrev pub StatusWritten : StatusMessage → List ℕ → Type 0
 StatusWritten m bytes = SpellsGroups
-    (int32_fields status_code_field m.code ∷ string_fields status_message_field m.message ∷ []) bytes
+    (int32_fields status_field.code m.code ∷ string_fields status_field.message m.message ∷ []) bytes
 
 -- the bytes that are written for a node
 abbrev pub NodeWritten : NodeMessage → List ℕ → Type 0
 NodeWritten m bytes = SpellsGroups
-    (string_fields node_id_field m.id ∷ string_fields node_cluster_field m.cluster ∷ []) bytes
+    (string_fields node_field.id m.id ∷ string_fields node_field.cluster m.cluster ∷ []) bytes
 
 -- the bytes that are written for a request
 pub record RequestWritten (m : RequestMessage) (bytes : List ℕ) : Type 0 where
   pub node : List Wire
   pub error_detail : List Wire
-  pub node_fields : AreOptional NodeWritten request_node_field m.node node
-  pub error_fields : AreOptional StatusWritten request_error_detail_field m.error_detail error_detail
+  pub node_fields : AreOptional NodeWritten request_field.node m.node node
+  pub error_fields : AreOptional StatusWritten request_field.error_detail m.error_detail error_detail
   pub spells : SpellsGroups
-      (string_fields request_version_info_field m.version_info ∷ node
-      ∷ strings_fields request_resource_names_field m.resource_names
-      ∷ string_fields request_type_url_field m.type_url
-      ∷ string_fields request_response_nonce_field m.response_nonce ∷ error_detail ∷ []) bytes
+      (string_fields request_field.version_info m.version_info ∷ node
+      ∷ strings_fields request_field.resource_names m.resource_names
+      ∷ string_fields request_field.type_url m.type_url
+      ∷ string_fields request_field.response_nonce m.response_nonce ∷ error_detail ∷ []) bytes
 
 -- the bytes that are written for a response
 pub record ResponseWritten (m : ResponseMessage) (bytes : List ℕ) : Type 0 where
   pub resources : List Wire
-  pub resource_fields : AreEach AnyWritten response_resources_field m.resources resources
+  pub resource_fields : AreEach AnyWritten response_field.resources m.resources resources
   pub spells : SpellsGroups
-      (string_fields response_version_info_field m.version_info ∷ resources
-      ∷ string_fields response_type_url_field m.type_url
-      ∷ string_fields response_nonce_field m.nonce ∷ []) bytes
+      (string_fields response_field.version_info m.version_info ∷ resources
+      ∷ string_fields response_field.type_url m.type_url
+      ∷ string_fields response_field.nonce m.nonce ∷ []) bytes
 
 -- the bytes that are written for an extension
 pub record ExtensionWritten (m : ExtensionMessage) (bytes : List ℕ) : Type 0 where
   pub typed_config : List Wire
-  pub config_fields : AreOptional AnyWritten extension_typed_config_field m.typed_config typed_config
-  pub spells : SpellsGroups (string_fields extension_name_field m.name ∷ typed_config ∷ []) bytes
+  pub config_fields : AreOptional AnyWritten extension_field.typed_config m.typed_config typed_config
+  pub spells : SpellsGroups (string_fields extension_field.name m.name ∷ typed_config ∷ []) bytes
 
 -- the new bytes are the old ones and then a message
 abbrev pub AddsMessage : (List ℕ → Type 0) → List ℕ → List ℕ → Type 0

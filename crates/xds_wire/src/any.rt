@@ -4,10 +4,12 @@ ghost use Rattle.std.specs.Prelude.{◌≡◌, [], ◌∷◌, List, map, IfOk, I
 ghost use Rattle.std.specs.Option.{option_map};
 ghost use Rattle.std.specs.List.{AllZip};
 ghost use Rattle.proto_wire.specs.Fields.{Wire, IsFieldNumber, field_view};
-ghost use Rattle.proto_wire.specs.Merge.{parts_view};
+ghost use Rattle.proto_wire.specs.Merge.{parts_view, SomeOf};
 ghost use Rattle.proto_wire.specs.Refusal.{MemoryOr};
-ghost use Rattle.xds_wire.specs.Discovery.{AreAnyFields, AnyFieldsFault, IsAny, AnyFault};
-ghost use Rattle.xds_wire.specs.Envelope.{IsMerged, MergedFault, AreRepeated, RepeatedFault, SomeOf};
+ghost use Rattle.proto_wire.specs.Values.{StringFault};
+ghost use Rattle.xds_wire.specs.Discovery.{any_field, AreAnyFields, IsAny, AnyFault};
+ghost use Rattle.proto_wire.specs.Reading.{IsOptional, OptionalFault};
+ghost use Rattle.xds_wire.specs.Envelope.{AreRepeated, RepeatedFault};
 ghost use Rattle.proto_wire.specs.private.Writing.{Keeps};
 ghost use Rattle.xds_wire.specs.View.{any_view};
 ghost use Rattle.xds_wire.specs.Written.{AnyWritten, AreOptional, AreEach};
@@ -44,7 +46,7 @@ pub(crate) fn read_any<'a>(alloc: Global, parts: &[&'a [u8]]) -> Result<Any<'a>,
 // The message of these fields.
 fn any_of<'a>(fields: &[Field<'a>]) -> Result<Any<'a>, Refusal>
     ensures found { IfOk result (λ any. AreAnyFields (map field_view fields.now) (any_view any)) }
-    ensures fault { IfErr result (AnyFieldsFault (map field_view fields.now)) }
+    ensures fault { IfErr result (StringFault any_field.type_url (map field_view fields.now)) }
 {
     Ok(Any {
         type_url: text_at(fields, TYPE_URL)?,
@@ -59,8 +61,8 @@ pub(crate) fn merged_any<'a>(
     number: u32,
 ) -> Result<Option<Any<'a>>, Refusal>
     ensures found { IfOk result (λ found.
-        IsMerged IsAny number (map field_view fields.now) (option_map any_view found)) }
-    ensures fault { IfErr result (MemoryOr (MergedFault AnyFault number (map field_view fields.now))) }
+        IsOptional IsAny number (map field_view fields.now) (option_map any_view found)) }
+    ensures fault { IfErr result (MemoryOr (OptionalFault AnyFault number (map field_view fields.now))) }
 {
     let parts = payloads_of(alloc, fields, number)?;
     if parts.is_empty() {

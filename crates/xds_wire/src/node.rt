@@ -6,7 +6,7 @@ ghost use Rattle.proto_wire.specs.Fields.{Wire, IsFieldNumber, field_view};
 ghost use Rattle.proto_wire.specs.Merge.{parts_view};
 ghost use Rattle.proto_wire.specs.Refusal.{MemoryOr};
 ghost use Rattle.xds_wire.specs.Discovery.{AreNodeFields, NodeFieldsFault, IsNode, NodeFault};
-ghost use Rattle.xds_wire.specs.Envelope.{IsMerged, MergedFault};
+ghost use Rattle.proto_wire.specs.Reading.{IsOptional, OptionalFault};
 ghost use Rattle.xds_wire.specs.View.{node_view};
 ghost use Rattle.xds_wire.specs.Written.{NodeWritten, AreOptional};
 ghost use Rattle.xds_wire.specs.private.Writing.{Adds};
@@ -57,8 +57,8 @@ pub(crate) fn merged_node<'a>(
     number: u32,
 ) -> Result<Option<Node<'a>>, Refusal>
     ensures found { IfOk result (λ found.
-        IsMerged IsNode number (map field_view fields.now) (option_map node_view found)) }
-    ensures fault { IfErr result (MemoryOr (MergedFault NodeFault number (map field_view fields.now))) }
+        IsOptional IsNode number (map field_view fields.now) (option_map node_view found)) }
+    ensures fault { IfErr result (MemoryOr (OptionalFault NodeFault number (map field_view fields.now))) }
 {
     let parts = payloads_of(alloc, fields, number)?;
     if parts.is_empty() {

@@ -5,8 +5,9 @@ ghost use Rattle.std.specs.Option.{option_map};
 ghost use Rattle.proto_wire.specs.Fields.{Wire, IsFieldNumber, field_view};
 ghost use Rattle.proto_wire.specs.Merge.{parts_view};
 ghost use Rattle.proto_wire.specs.Refusal.{MemoryOr};
-ghost use Rattle.xds_wire.specs.Discovery.{AreStatusFields, StatusFieldsFault, IsStatus, StatusFault};
-ghost use Rattle.xds_wire.specs.Envelope.{IsMerged, MergedFault};
+ghost use Rattle.proto_wire.specs.Values.{StringFault};
+ghost use Rattle.xds_wire.specs.Discovery.{status_field, AreStatusFields, IsStatus, StatusFault};
+ghost use Rattle.proto_wire.specs.Reading.{IsOptional, OptionalFault};
 ghost use Rattle.xds_wire.specs.View.{status_view};
 ghost use Rattle.xds_wire.specs.Written.{StatusWritten, AreOptional, int32_fields};
 ghost use Rattle.xds_wire.specs.private.Writing.{Adds};
@@ -43,7 +44,7 @@ fn read_status<'a>(alloc: Global, parts: &[&'a [u8]]) -> Result<Status<'a>, Refu
 fn status_of<'a>(fields: &[Field<'a>]) -> Result<Status<'a>, Refusal>
     ensures found { IfOk result (λ status.
         AreStatusFields (map field_view fields.now) (status_view status)) }
-    ensures fault { IfErr result (StatusFieldsFault (map field_view fields.now)) }
+    ensures fault { IfErr result (StringFault status_field.message (map field_view fields.now)) }
 {
     Ok(Status {
         code: int32_at(fields, CODE),
@@ -58,8 +59,8 @@ pub(crate) fn merged_status<'a>(
     number: u32,
 ) -> Result<Option<Status<'a>>, Refusal>
     ensures found { IfOk result (λ found.
-        IsMerged IsStatus number (map field_view fields.now) (option_map status_view found)) }
-    ensures fault { IfErr result (MemoryOr (MergedFault StatusFault number (map field_view fields.now))) }
+        IsOptional IsStatus number (map field_view fields.now) (option_map status_view found)) }
+    ensures fault { IfErr result (MemoryOr (OptionalFault StatusFault number (map field_view fields.now))) }
 {
     let parts = payloads_of(alloc, fields, number)?;
     if parts.is_empty() {

@@ -3,10 +3,10 @@
 ghost use Rattle.std.specs.Prelude.{◌≡◌, map, IfOk, IfErr, IsUtf8};
 ghost use Rattle.std.specs.List.{AllByRecursion};
 ghost use Rattle.proto_wire.specs.Fields.{field_view};
-ghost use Rattle.proto_wire.specs.Merge.{parts_view};
+ghost use Rattle.proto_wire.specs.Merge.{parts_view, SomeOf};
 ghost use Rattle.proto_wire.specs.Refusal.{MemoryOr};
 ghost use Rattle.proto_wire.specs.Values.{Utf8Fault};
-ghost use Rattle.xds_wire.specs.Envelope.{AreStrings, StringsFault, SomeOf};
+ghost use Rattle.xds_wire.specs.Envelope.{AreStrings, StringsFault};
 ghost use Rattle.xds_wire.specs.View.{texts_view};
 
 use proto_wire::{Field, Refusal, payloads_of, text_of};

@@ -1,7 +1,7 @@
 use Rattle.std.proofs.Common.{inl, inr, refl}
 use Rattle.ads.specs.Config.{HasName, Repeats}
 use Rattle.ads.specs.Views.{filters_view}
-use Rattle.xds_wire.specs.Envelope.{SomeOf}
+use Rattle.proto_wire.specs.Merge.{SomeOf}
 use Rattle.ads.proofs.config.check_names.Goals as goal
 
 pub returns-then-has_name-clause-fault : goal.returns-then-has_name-clause-fault

@@ -1,5 +1,5 @@
 use Rattle.std.proofs.Common.{take}
-use Rattle.xds_wire.specs.Envelope.{SomeOf}
+use Rattle.proto_wire.specs.Merge.{SomeOf}
 use Rattle.ads.specs.Config.{HasName}
 use Rattle.ads.specs.Views.{filters_view}
 use Rattle.ads.proofs.config.has_name.Given as goal

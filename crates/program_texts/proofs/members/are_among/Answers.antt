@@ -7,7 +7,7 @@ use Rattle.std.specs.List.{AllWithin, HoldsAt}
 use Rattle.std.specs.BTreeMap.{keys}
 use Rattle.serde_json.specs.View.{members_view}
 use Rattle.serde_json.specs.declared.value.Value.{Value}
-use Rattle.xds_wire.specs.Envelope.{SomeOf}
+use Rattle.proto_wire.specs.Merge.{SomeOf}
 use Rattle.program_texts.specs.Members.{AreAmong}
 use Rattle.program_texts.proofs.members.are_among.Goals as goal
 

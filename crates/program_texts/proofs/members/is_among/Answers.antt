@@ -1,7 +1,7 @@
 use Rattle.std.proofs.Common.{◌≡◌, ℕ, ◌+◌, ◌<◌, List, Bool, true, false, Bor, sym, ◌∙◌, refl, length, map, take, get_or, true≢false, take_all, arith}
 use Rattle.std.specs.Str.{bytes_eq}
 use Rattle.std.proofs.lemmas.Slice.Eq.{bytes_eq-Decides}
-use Rattle.xds_wire.specs.Envelope.{SomeOf}
+use Rattle.proto_wire.specs.Merge.{SomeOf}
 use Rattle.program_texts.proofs.Names.{some_at, none_more}
 use Rattle.program_texts.proofs.members.is_among.Goals as goal
 

@@ -1,6 +1,6 @@
 -- None of the names so far is this one.
 use Rattle.std.proofs.Common.{◌≡◌, map, take}
-use Rattle.xds_wire.specs.Envelope.{SomeOf}
+use Rattle.proto_wire.specs.Merge.{SomeOf}
 use Rattle.program_texts.proofs.members.is_among.Given as goal
 
 abbrev pub invariant-loop-known : goal.invariant-loop-known

@@ -1,5 +1,5 @@
 use Rattle.std.proofs.Common.{◌≡◌, None, take}
-use Rattle.xds_wire.specs.Envelope.{SomeOf}
+use Rattle.proto_wire.specs.Merge.{SomeOf}
 use Rattle.ads.specs.Views.{policies_view}
 use Rattle.proxy_core.proofs.chain.is_ready.Given as goal
 

@@ -2,7 +2,7 @@ use Rattle.std.proofs.Common.{◌≢◌, List, [], map, arith}
 use Rattle.std.proofs.lemmas.Grind.{common_steps}
 use Rattle.proto_wire.specs.Fields.{Wire, field_view}
 use Rattle.xds_wire.specs.Discovery.{AnyFault}
-use Rattle.xds_wire.proofs.ReadExits.{exit_merged}
+use Rattle.proto_wire.proofs.OptionalLaws.{exit_optional}
 use Rattle.xds_wire.proofs.any.merged_any.Goals as goal
 
 pub returns-in_err-read_any-clause-fault : goal.returns-in_err-read_any-clause-fault
@@ -10,5 +10,5 @@ returns-in_err-read_any-clause-fault c =
     let exit = c.from_residual-in_err-read_any in
     let fs : List Wire = map field_view c.args.fields.now in
     let some : c.in_ok-parts.parts.items ≢ [] = grind (arith, common_steps) in
-    exit_merged AnyFault c.args.number fs c.in_ok-parts.parts.items c.in_ok-parts.ensures some
+    exit_optional AnyFault c.args.number fs c.in_ok-parts.parts.items c.in_ok-parts.ensures some
     exit.result _ exit.ensures.1 (rw (← c.deref.ensures) c.in_err-read_any.ensures.fault)
