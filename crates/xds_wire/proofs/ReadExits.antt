@@ -11,7 +11,6 @@ use Rattle.proto_wire.specs.declared.refusal.Refusal.{Refusal}
 use Rattle.proto_wire.proofs.Exits.{exit_memory_or}
 use Rattle.xds_wire.specs.Envelope.{IsEnvelope, EnvelopeFault, not_whole, in_fields}
 use Rattle.xds_wire.proofs.Each.{some_part}
-use Rattle.proto_wire.specs.Values.{payloads}
 
 -- at a `?` on the payloads
 pub exit_parts : (F : List Wire → Refusal → Type 0) (parts : List (List ℕ)) {T : Type 0}
