@@ -17,6 +17,7 @@ use Rattle.cost_bound.specs.declared.numbers.Formula.{Formula, Fixed, Local, Max
 use Rattle.cost_bound.specs.declared.numbers.Gives.{Gives}
 use Rattle.cost_bound.specs.declared.seen.Kind.{Kind}
 use Rattle.cost_bound.specs.declared.numbers.Numbers.{Numbers}
+use Rattle.cost_bound.specs.declared.numbers.Rule.{Rule}
 use Rattle.cost_bound.specs.declared.seen.Seen.{Seen}
 use Rattle.cost_bound.proofs.Capped.{capped_same}
 
@@ -33,9 +34,9 @@ pub view_either : (p q : Rc Formula Global) → formula_view (Either p q)
     ≡ either (formula_view p.value) (formula_view q.value)
 view_either p q = search (rules, the_lemmas)
 
-pub view_both : (p q : Rc Formula Global) (c f : ℕ) (g : Gives) → formula_view (Both p q c f g)
-    ≡ both (formula_view p.value) (formula_view q.value) c f g
-view_both p q c f g = search (rules, the_lemmas)
+pub view_both : (p q : Rc Formula Global) (k : Rule) → formula_view (Both p q k)
+    ≡ both (formula_view p.value) (formula_view q.value) k
+view_both p q k = search (rules, the_lemmas)
 
 -- ---- locals
 
@@ -126,30 +127,33 @@ cost_sum r costs own one other x whole paid ow low = omega arith
 itself : (n : ℕ) → n < 2 ^ 64 → n ≡ capped n
 itself n h = sym (capped_same n h)
 
-module _ (p q : FormulaTree) (ss : List Size) (one other r : Numbers) (c f : ℕ) (g : Gives)
-    (lengths times own costs : ℕ) where
-  pub both_has : one.cost < 2 ^ 64 → other.cost < 2 ^ 64 → own < 2 ^ 64 → costs < 2 ^ 64 → c < 2 ^ 64
-      → f < 2 ^ 64
-      → ((m n : ℕ) → one.length ≡ capped m → other.length ≡ capped n → lengths ≡ capped (m + n))
-      → ((m n : ℕ) → f ≡ capped m → lengths ≡ capped n → times ≡ capped (m * n))
-      → ((m n : ℕ) → c ≡ capped m → times ≡ capped n → own ≡ capped (m + n))
+module _ (p q : FormulaTree) (ss : List Size) (one other r : Numbers) (k : Rule)
+    (left right lengths own costs : ℕ) where
+  pub both_has : one.cost < 2 ^ 64 → other.cost < 2 ^ 64 → own < 2 ^ 64 → costs < 2 ^ 64 → k.charge < 2 ^ 64
+      → k.first < 2 ^ 64 → k.second < 2 ^ 64
+      → ((m n : ℕ) → k.first ≡ capped m → one.length ≡ capped n → left ≡ capped (m * n))
+      → ((m n : ℕ) → k.second ≡ capped m → other.length ≡ capped n → right ≡ capped (m * n))
+      → ((m n : ℕ) → left ≡ capped m → right ≡ capped n → lengths ≡ capped (m + n))
+      → ((m n : ℕ) → k.charge ≡ capped m → lengths ≡ capped n → own ≡ capped (m + n))
       → ((m n : ℕ) → one.cost ≡ capped m → other.cost ≡ capped n → costs ≡ capped (m + n))
       → ((m n : ℕ) → costs ≡ capped m → own ≡ capped n → r.cost ≡ capped (m + n))
-      → ((m n : ℕ) → one.length ≡ capped m → other.length ≡ capped n → r.length ≡ capped (given g m n))
-      → HasNumbers p ss one → HasNumbers q ss other → HasNumbers (both p q c f g) ss r
-  both_has fit1 fit2 fit3 fit4 fit5 fit6 h1 h2 h3 h4 h5 h6 hp hq = λ low.
-      let whole = h5 costs own (itself costs fit4) (itself own fit3) in
-      let paid = h4 one.cost other.cost (itself one.cost fit1) (itself other.cost fit2) in
+      → ((m n : ℕ) → one.length ≡ capped m → other.length ≡ capped n → r.length ≡ capped (given k.gives m n))
+      → HasNumbers p ss one → HasNumbers q ss other → HasNumbers (both p q k) ss r
+  both_has fit1 fit2 fit3 fit4 fit5 fit6 fit7 h1 h2 h3 h4 h5 h6 h7 hp hq = λ low.
+      let whole = h6 costs own (itself costs fit4) (itself own fit3) in
+      let paid = h5 one.cost other.cost (itself one.cost fit1) (itself other.cost fit2) in
       let a = hp (omega (arith, whole, paid, low)) in
       let b = hq (omega (arith, whole, paid, low)) in
-      let long = h1 (length_at p ss) (length_at q ss) a.2 b.2 in
-      let many = h2 f (length_at p ss + length_at q ss) (itself f fit6) long in
-      let ow = h3 c (f * (length_at p ss + length_at q ss)) (itself c fit5) many in
-      let all = cost_sum r.cost costs own one.cost other.cost (c + f * (length_at p ss + length_at q ss))
-      whole paid ow low in (
+      let m = k.first * length_at p ss in
+      let n = k.second * length_at q ss in
+      let first = h1 k.first (length_at p ss) (itself k.first fit6) a.2 in
+      let second = h2 k.second (length_at q ss) (itself k.second fit7) b.2 in
+      let long = h3 m n first second in
+      let ow = h4 k.charge (m + n) (itself k.charge fit5) long in
+      let all = cost_sum r.cost costs own one.cost other.cost (k.charge + (m + n)) whole paid ow low in (
         (a.0, b.0),
         rw (← a.1, ← b.1) all,
-        h6 (length_at p ss) (length_at q ss) a.2 b.2,
+        h7 (length_at p ss) (length_at q ss) a.2 b.2,
       )
 
 -- ---- the same numbers
@@ -174,12 +178,13 @@ either_same r p q u v first second all = λ ss h.
     let a = first ss k.0.0 in
     let b = second ss k.0.1 in ((a.0, b.0), rw (← a.1, ← b.1) k.1, rw (← a.2, ← b.2) k.2)
 
-pub both_same : (r p q u v : FormulaTree) (c f : ℕ) (g : Gives) → SameNumbers p u → SameNumbers q v
-    → SameNumbers r (both p q c f g) → SameNumbers r (both u v c f g)
-both_same r p q u v c f g first second all = λ ss h.
-    let k = all ss h in
-    let a = first ss k.0.0 in
-    let b = second ss k.0.1 in ((a.0, b.0), rw (← a.1, ← b.1, ← a.2, ← b.2) k.1, rw (← a.2, ← b.2) k.2)
+pub both_same : (r p q u v : FormulaTree) (k : Rule) → SameNumbers p u → SameNumbers q v
+    → SameNumbers r (both p q k) → SameNumbers r (both u v k)
+both_same r p q u v k first second all = λ ss h.
+    let whole = all ss h in
+    let a = first ss whole.0.0 in
+    let b = second ss whole.0.1 in
+    ((a.0, b.0), rw (← a.1, ← b.1, ← a.2, ← b.2) whole.1, rw (← a.2, ← b.2) whole.2)
 
 pub gets_same : (r p : FormulaTree) (sh : ShapeTree) (ss : List Size) (s : Size) (c : ℕ) → SameNumbers r p
     → Gets p sh ss s c → Gets r sh ss s c
@@ -187,14 +192,14 @@ gets_same r p sh ss s c same h = λ named.
     let k = same ss named in
     let g = h k.0 in (rw k.2 g.0, k.1 ∙ g.1)
 
--- two expressions, a charge, and so many times their lengths
-pub pair_gets : (r p q : FormulaTree) (c f : ℕ) (g : Gives) (left right sh : ShapeTree) (ss : List Size)
-    (s u v : Size) (a b n : ℕ) → SameNumbers r (both p q c f g) → Gets p left ss s a → Gets q right ss u b
-    → ((m k : ℕ) → HasShape left m ss s → HasShape right k ss u
-    → HasShape sh (given g m k) ss v × (a + b + (c + f * (m + k)) ≡ n))
-    → Gets r sh ss v n
-pair_gets r p q c f g left right sh ss s u v a b n same hp hq h =
-    gets_same r (both p q c f g) sh ss v n same (λ named.
+-- two expressions by a rule
+pub pair_gets : (r p q : FormulaTree) (k : Rule) (left right sh : ShapeTree) (ss : List Size)
+    (s u v : Size) (a b c : ℕ) → SameNumbers r (both p q k) → Gets p left ss s a → Gets q right ss u b
+    → ((m n : ℕ) → HasShape left m ss s → HasShape right n ss u
+    → HasShape sh (given k.gives m n) ss v × (a + b + (k.charge + (k.first * m + k.second * n)) ≡ c))
+    → Gets r sh ss v c
+pair_gets r p q k left right sh ss s u v a b c same hp hq h =
+    gets_same r (both p q k) sh ss v c same (λ named.
     let first = hp named.0 in
     let second = hq named.1 in
     let whole = h (length_at p ss) (length_at q ss) first.0 second.0 in

@@ -1,11 +1,12 @@
 -- The laws of shapes.
-use Rattle.std.proofs.Common.{◌≡◌, ℕ, ◌+◌, List, [], max, refl, sym, ap, ◌∙◌, rules, arith}
+use Rattle.std.proofs.Common.{◌≡◌, ℕ, ◌+◌, List, [], max, refl, sym, ap, ◌∙◌, rules, arith, ◌*◌, mul-add, mul_assoc}
 use Rattle.std.specs.declared.rc.Rc.{Rc}
 use Rattle.std.specs.declared.vec.Vec.{Vec}
 use Rattle.std.specs.declared.alloc.Global.{Global}
 use Rattle.cel_costs.specs.Costs.{value_size}
 use Rattle.cel_costs.specs.Sizes.{Size, join, mass_of}
-use Rattle.cost_bound.specs.private.Formulas.{ShapeTree, flat, lengthy, joins, items, item, HasShape, joined, shape_view}
+use Rattle.cost_bound.specs.private.Formulas.{HasCount, HasMass, ShapeTree, flat, lengthy, joins, items, item, HasShape, joined, shape_view}
+use Rattle.cost_bound.specs.declared.shape.Mass.{Mass}
 use Rattle.cost_bound.specs.declared.shape.Shape.{Shape, Flat as FlatShape, Text as TextShape, Joined, Items, Item, the_lemmas}
 use Rattle.cost_bound.proofs.Forms.{join_flat, join_swap, value_join}
 
@@ -33,12 +34,23 @@ pub item_within : (sh : ShapeTree) (n : ℕ) (ss : List Size) (s : Size) → Has
     → HasShape (item sh) n ss (value_size s)
 item_within sh n ss s h = (s, refl, h)
 
--- the mass of what is flat, or a text
-pub flat_mass : (n : ℕ) (ss : List Size) (s : Size) → HasShape flat n ss s → mass_of s ≡ 1 + n
-flat_mass n ss s h = rw (h.0, h.1) refl
+-- the mass of what is flat, a text, or a list of items with a mass
+pub flat_mass : (m : Mass) → m.charge ≡ 1 → m.factor ≡ 0 → HasMass flat m
+flat_mass m one none = λ n ss s h. rw (h.0, h.1, one, none) refl
 
-pub text_mass : (n : ℕ) (ss : List Size) (s : Size) → HasShape lengthy n ss s → mass_of s ≡ 1 + n
-text_mass n ss s h = rw h refl
+pub text_mass : (m : Mass) → m.charge ≡ 1 → m.factor ≡ 1 → HasMass lengthy m
+text_mass m one once = λ n ss s h. rw (h, one, once) (omega arith)
+
+pub items_mass : (c : ℕ) (each : ShapeTree) (m r : Mass) → HasMass each m → r.charge ≡ 1 + c * m.charge
+    → r.factor ≡ c * m.factor → HasMass (items c each) r
+items_mass c each m r one charge factor = λ n ss s h.
+    let mass = one n ss h.0 h.2 in
+    let whole : c * mass_of h.0 ≡ c * m.charge + c * m.factor * n =
+    rw mass (mul-add c m.charge (m.factor * n) ∙ ap (λ z. c * m.charge + z) (sym (mul_assoc c m.factor n))) in
+    rw (h.1, factor) (omega (arith, whole, charge))
+
+pub items_count : (c : ℕ) (each : ShapeTree) → HasCount (items c each) c
+items_count c each = λ n ss s h. rw h.1 refl
 
 -- two joined
 module _ (m n : ℕ) (ss : List Size) (s t : Size) where

@@ -1,5 +1,5 @@
 -- The laws of terms and of the greatest of them.
-use Rattle.std.proofs.Common.{◌≡◌, ℕ, zero, suc, ◌+◌, ◌-◌, ◌<◌, ◌≤◌, List, [], ◌∷◌, ◌++◌, length, drop, get_or, max, refl, sym, ap, ◌∙◌, inl, inr, arith}
+use Rattle.std.proofs.Common.{◌≡◌, ℕ, zero, suc, ◌+◌, ◌*◌, ◌-◌, ◌<◌, ◌≤◌, List, [], ◌∷◌, ◌++◌, length, drop, get_or, max, refl, sym, ap, ◌∙◌, inl, inr, arith, add-mul, mul-add, mul_assoc, mul-zero, mul-le-mul_left, mul-le-mul_right}
 use Rattle.std.proofs.Math.ListN.{drop_of_length-le}
 use Rattle.std.proofs.lemmas.Bool.{cases_lt}
 use Rattle.std.proofs.lemmas.List.{drop_more}
@@ -9,6 +9,7 @@ use Rattle.cel_costs.specs.Sizes.{Size, most_of}
 use Rattle.cost_bound.specs.private.Formulas.{AreKinds, greatest_at, kind_of, lengths_at, term_at}
 use Rattle.cost_bound.specs.declared.maxima.Named.{Named}
 use Rattle.cost_bound.specs.declared.term.Term.{Term}
+use Rattle.cost_bound.specs.declared.term.Times.{Times}
 
 -- a list from the place before
 pub item_before : {A : Type 0} (xs : List A) (at : ℕ) (x : A) → x ≡ get_or xs (at - 1) x → 0 < at → at ≤ length xs
@@ -18,19 +19,106 @@ item_before xs at x e some fits =
     let whole = drop_more xs (at - 1) x (omega arith) in
     rw (← e, back) at whole
 
+-- the length of a local, so many times
+abbrev pub counted_at : Times → List Size → ℕ
+counted_at t ss = t.times * most_of (known (local_at t.local ss))
+
+-- the lengths from a place on
+pub lengths_from : (ns : List Times) (i : ℕ) (d : Times) (ss : List Size) → i < length ns
+    → lengths_at (drop i ns) ss ≡ counted_at (get_or ns i d) ss + lengths_at (drop (i + 1) ns) ss
+lengths_from ns i d ss within = ap (λ ms. lengths_at ms ss) (drop_more ns i d within)
+
 -- the lengths from the place before
-pub lengths_before : (ns : List ℕ) (at : ℕ) (ss : List Size) → 0 < at → at ≤ length ns
-    → lengths_at (drop (at - 1) ns) ss
-    ≡ most_of (known (local_at (get_or ns (at - 1) 0) ss)) + lengths_at (drop at ns) ss
-lengths_before ns at ss some fits =
+pub lengths_before : (ns : List Times) (at : ℕ) (d : Times) (ss : List Size) → 0 < at → at ≤ length ns
+    → lengths_at (drop (at - 1) ns) ss ≡ counted_at (get_or ns (at - 1) d) ss + lengths_at (drop at ns) ss
+lengths_before ns at d ss some fits =
     let back : at - 1 + 1 ≡ at = omega arith in
-    let whole = drop_more ns (at - 1) 0 (omega arith) in
+    let whole = drop_more ns (at - 1) d (omega arith) in
     ap (λ ms. lengths_at ms ss) (rw back at whole)
 
-pub lengths_append : (ns ms : List ℕ) (ss : List Size) → lengths_at (ns ++ ms) ss ≡ lengths_at ns ss + lengths_at ms ss
-lengths_append [] ms ss = omega arith
-lengths_append (n ∷ ns) ms ss =
-    let more = lengths_append ns ms ss in omega (arith, more)
+-- none are left at the end
+pub lengths_beyond : (ns : List Times) (at : ℕ) (ss : List Size) → length ns ≤ at → lengths_at (drop at ns) ss ≡ 0
+lengths_beyond ns at ss out = ap (λ ms. lengths_at ms ss) (drop_of_length-le ns out)
+
+-- one more local at the end
+pub lengths_pushed : (ns : List Times) (x : Times) (ss : List Size)
+    → lengths_at (ns ++ x ∷ []) ss ≡ lengths_at ns ss + counted_at x ss
+lengths_pushed [] x ss = omega arith
+lengths_pushed (n ∷ ns) x ss =
+    let more = lengths_pushed ns x ss in omega (arith, more)
+
+-- the locals of two lists, in order
+module _ (all one : List Times) (i : ℕ) (d : Times) (ss : List Size) (within : i < length one) where
+  pub merged_first : (more whole : ℕ) → lengths_at all ss + (lengths_at (drop i one) ss + more) ≡ whole
+      → lengths_at (all ++ get_or one i d ∷ []) ss + (lengths_at (drop (i + 1) one) ss + more) ≡ whole
+  merged_first more whole h =
+      let pushed = lengths_pushed all (get_or one i d) ss in
+      let front = lengths_from one i d ss within in
+      omega (arith, pushed, front, h)
+
+  pub merged_second : (more whole : ℕ) → lengths_at all ss + (more + lengths_at (drop i one) ss) ≡ whole
+      → lengths_at (all ++ get_or one i d ∷ []) ss + (more + lengths_at (drop (i + 1) one) ss) ≡ whole
+  merged_second more whole h =
+      let pushed = lengths_pushed all (get_or one i d) ss in
+      let front = lengths_from one i d ss within in
+      omega (arith, pushed, front, h)
+
+  pub merged_both : (other : List Times) (j : ℕ) (z : Times) → j < length other
+      → (get_or one i d).local ≡ (get_or other j d).local → z.local ≡ (get_or one i d).local
+      → z.times ≡ (get_or one i d).times + (get_or other j d).times → (whole : ℕ)
+      → lengths_at all ss + (lengths_at (drop i one) ss + lengths_at (drop j other) ss) ≡ whole
+      → lengths_at (all ++ z ∷ []) ss + (lengths_at (drop (i + 1) one) ss + lengths_at (drop (j + 1) other) ss)
+      ≡ whole
+  merged_both other j z within' same local times whole h =
+      let pushed = lengths_pushed all z ss in
+      let front = lengths_from one i d ss within in
+      let front' = lengths_from other j d ss within' in
+      let sum : counted_at z ss ≡ counted_at (get_or one i d) ss + counted_at (get_or other j d) ss =
+      rw (times, local, ← same)
+      (add-mul (get_or one i d).times (get_or other j d).times (most_of (known (local_at (get_or one i d).local ss)))) in
+      omega (arith, pushed, front, front', sum, h)
+
+-- so many times each
+pub multiplied_more : (all ns : List Times) (i : ℕ) (d z : Times) (f whole : ℕ) (ss : List Size)
+    → i < length ns → z.local ≡ (get_or ns i d).local → z.times ≡ f * (get_or ns i d).times
+    → lengths_at all ss + f * lengths_at (drop i ns) ss ≡ whole
+    → lengths_at (all ++ z ∷ []) ss + f * lengths_at (drop (i + 1) ns) ss ≡ whole
+multiplied_more all ns i d z f whole ss within local times h =
+    let pushed = lengths_pushed all z ss in
+    let front : f * lengths_at (drop i ns) ss
+    ≡ f * counted_at (get_or ns i d) ss + f * lengths_at (drop (i + 1) ns) ss =
+    ap (λ n. f * n) (lengths_from ns i d ss within)
+    ∙ mul-add f (counted_at (get_or ns i d) ss) (lengths_at (drop (i + 1) ns) ss) in
+    let each : counted_at z ss ≡ f * counted_at (get_or ns i d) ss =
+    rw (times, local)
+    (mul_assoc f (get_or ns i d).times (most_of (known (local_at (get_or ns i d).local ss)))) in
+    omega (arith, pushed, front, each, h)
+
+pub nothing_left : (ns : List Times) (i f : ℕ) (ss : List Size) → length ns ≤ i → f * lengths_at (drop i ns) ss ≡ 0
+nothing_left ns i f ss out = ap (λ n. f * n) (lengths_beyond ns i ss out) ∙ mul-zero f
+
+-- so many times the sum or the greatest
+pub times_sum : (f m n k l : ℕ) → m ≡ f * k → n ≡ f * l → m + n ≡ f * (k + l)
+times_sum f m n k l one other =
+    let whole = mul-add f k l in omega (arith, one, other, whole)
+
+pub times_greater : (f m n : ℕ) → f * max m n ≡ max (f * m) (f * n)
+times_greater f m n = elim (cases_lt m n) [
+  | inl lower ↦
+      let most : max m n ≡ n = omega arith in
+      let below : f * m ≤ f * n = mul-le-mul_left f (omega arith) in
+      rw most (omega arith)
+  | inr high ↦
+      let most : max m n ≡ m = omega arith in
+      let below : f * n ≤ f * m = mul-le-mul_left f (omega arith) in
+      rw most (omega arith)
+]
+
+-- a local that counts as often or more
+pub within_counts : (one other : Times) (ss : List Size) → one.local ≡ other.local → one.times ≤ other.times
+    → counted_at one ss ≤ counted_at other ss
+within_counts one other ss same less =
+    rw same (mul-le-mul_right (most_of (known (local_at other.local ss))) less)
 
 -- one more term at the end
 pub greatest_pushed : (ts : List Term) (t : Term) (ss : List Size)
@@ -71,6 +159,30 @@ module _ (ts : List Term) (at : ℕ) (x : Term) (is : x ≡ get_or ts (at - 1) x
             let last : greatest_at (drop at ts) ss ≡ 0 =
             ap (λ us. greatest_at us ss) (drop_of_length-le ts (omega arith)) in
             omega (arith, pushed, same, first, last, greatest_before)
+      ]
+
+  -- it is taken so many times
+  pub times_before : (all : List Term) (t : Term) (f : ℕ) → term_at t ss ≡ f * term_at x ss
+      → greatest_at all ss ≡ f * greatest_at (drop at ts) ss
+      → greatest_at (all ++ t ∷ []) ss ≡ f * greatest_at (drop (at - 1) ts) ss
+  times_before all t f one h =
+      let pushed = greatest_pushed all t ss in
+      let whole = ap (λ n. f * n) greatest_before
+      ∙ times_greater f (term_at x ss) (greatest_at (drop at ts) ss) in
+      omega (arith, pushed, one, h, whole)
+
+  -- others are added to it
+  pub summed_before : (all more old n : ℕ) → all ≡ max old more → more ≡ n + term_at x ss
+      → (at < length ts → old ≡ n + greatest_at (drop at ts) ss) → (length ts ≤ at → old ≡ 0)
+      → all ≡ n + greatest_at (drop (at - 1) ts) ss
+  summed_before all more old n whole sum h none =
+      elim (cases_lt at (length ts)) [
+        | inl lower ↦ let before = h lower in omega (arith, whole, sum, before, greatest_before)
+        | inr high ↦
+            let first = none (omega arith) in
+            let last : greatest_at (drop at ts) ss ≡ 0 =
+            ap (λ us. greatest_at us ss) (drop_of_length-le ts (omega arith)) in
+            omega (arith, whole, sum, first, last, greatest_before)
       ]
 
 -- one more kind at the end

@@ -2,6 +2,7 @@
 
 ghost use Rattle.std.specs.Prelude.{◌≡◌, IfOk, IfSome, List, if◌then◌else◌, length};
 ghost use Rattle.attributes.specs.Limits.{LimitsValue};
+ghost use Rattle.cel_overload.specs.declared.overload.Overload.{Overload};
 ghost use Rattle.cel_overload.specs.declared.overload.Overload.TheVariants.{Conditional, Operate};
 ghost use Rattle.cel_ops.specs.declared.operation.Operation.TheVariants as operations;
 ghost use Rattle.cel_types.specs.Elaborated.{TypedTree, kind, no_typed, typed, typed_call};
@@ -10,14 +11,14 @@ ghost use Rattle.cel_types.specs.private.ExprViews.{exprs_view};
 ghost use Rattle.cel_value.specs.Types.{ValueType, bytes_type, text_type, type_view};
 ghost use Rattle.cel_costs.specs.Costs.{counted_cost};
 ghost use Rattle.cel_costs.specs.Sizes.{Size, most_of};
-ghost use Rattle.cost_bound.specs.private.Formulas.{fixed, formula_view};
+ghost use Rattle.cost_bound.specs.private.Formulas.{IsOverMasses, fixed, formula_view};
 ghost use Rattle.cost_bound.specs.private.Memos.{Forms, MemoHoldsEach, memo_view};
 
 use crate::form::{Form, choice_form, flat_form, text_form};
 use crate::formula::both;
 use crate::memo::{Memo, form_at};
-use crate::numbers::{Formula, Gives};
-use crate::shape::{Shape, item_shape};
+use crate::numbers::{Formula, Gives, Rule};
+use crate::shape::{Shape, charge_of, item_shape, join_shapes};
 use cel_ops::{Conversion, Operation};
 use cel_overload::Overload;
 use cel_types::TypedExpr;
@@ -101,16 +102,28 @@ fn single_form(
         → Forms f (typed_call t (Operate op) (typed (expr_view operand.now) no_typed)) l)) }
 {
     let none = fixed_form(alloc, 0)?;
+    let plain = Rule {
+        charge: 1,
+        first: 0,
+        second: 0,
+        gives: Gives::Nothing,
+    };
     match op {
-        Operation::Not => flat_form(alloc, form, &none, 1, 0),
-        Operation::NotStrictlyFalse => flat_form(alloc, form, &none, 1, 0),
-        Operation::Negate => flat_form(alloc, form, &none, 1, 0),
+        Operation::Not => flat_form(alloc, form, &none, plain),
+        Operation::NotStrictlyFalse => flat_form(alloc, form, &none, plain),
+        Operation::Negate => flat_form(alloc, form, &none, plain),
         Operation::Size => {
             if !is_counted(operand) {
-                return flat_form(alloc, form, &none, 1, 0);
+                return flat_form(alloc, form, &none, plain);
             }
             if form.shape.is_text() {
-                return flat_form(alloc, form, &none, 1, 1);
+                let rule = Rule {
+                    charge: 1,
+                    first: 1,
+                    second: 1,
+                    gives: Gives::Nothing,
+                };
+                return flat_form(alloc, form, &none, rule);
             }
             Ok(None)
         }
@@ -163,30 +176,48 @@ fn converted_form(alloc: Global, kind: Conversion, form: &Form) -> Result<Option
 {
     let none = fixed_form(alloc, 0)?;
     let digits = fixed_form(alloc, 20)?;
+    let written = Rule {
+        charge: 21,
+        first: 0,
+        second: 0,
+        gives: Gives::Sum,
+    };
+    let copied = Rule {
+        charge: 1,
+        first: 1,
+        second: 1,
+        gives: Gives::First,
+    };
+    let plain = Rule {
+        charge: 1,
+        first: 0,
+        second: 0,
+        gives: Gives::Nothing,
+    };
     match kind {
-        Conversion::UintToInt => flat_form(alloc, form, &none, 1, 0),
-        Conversion::IntToUint => flat_form(alloc, form, &none, 1, 0),
+        Conversion::UintToInt => flat_form(alloc, form, &none, plain),
+        Conversion::IntToUint => flat_form(alloc, form, &none, plain),
         Conversion::IntToText => {
             if form.shape.is_flat() {
-                return text_form(alloc, form, &digits, 21, 0, Gives::Sum);
+                return text_form(alloc, form, &digits, written);
             }
             Ok(None)
         }
         Conversion::UintToText => {
             if form.shape.is_flat() {
-                return text_form(alloc, form, &digits, 21, 0, Gives::Sum);
+                return text_form(alloc, form, &digits, written);
             }
             Ok(None)
         }
         Conversion::BytesToText => {
             if form.shape.is_text() {
-                return text_form(alloc, form, &none, 1, 1, Gives::First);
+                return text_form(alloc, form, &none, copied);
             }
             Ok(None)
         }
         Conversion::TextToBytes => {
             if form.shape.is_text() {
-                return text_form(alloc, form, &none, 1, 1, Gives::First);
+                return text_form(alloc, form, &none, copied);
             }
             Ok(None)
         }
@@ -204,32 +235,40 @@ fn pair_form(
         → Forms first.now x l → Forms second.now y l
         → Forms f (typed_call t (Operate op) (typed x (typed y no_typed))) l)) }
 {
+    let plain = Rule {
+        charge: 1,
+        first: 0,
+        second: 0,
+        gives: Gives::Nothing,
+    };
+    let jumps = Rule {
+        charge: 2,
+        first: 0,
+        second: 0,
+        gives: Gives::Nothing,
+    };
+    let joined = Rule {
+        charge: 1,
+        first: 1,
+        second: 1,
+        gives: Gives::Sum,
+    };
     match op {
-        Operation::And => flat_form(alloc, first, second, 2, 0),
-        Operation::Or => flat_form(alloc, first, second, 2, 0),
-        Operation::Arithmetic(_) => flat_form(alloc, first, second, 1, 0),
-        Operation::Compare(_) => {
-            if first.shape.is_scalar() && second.shape.is_scalar() {
-                return flat_form(alloc, first, second, 3, 1);
-            }
-            Ok(None)
-        }
-        Operation::TestText(_) => {
-            if first.shape.is_scalar() && second.shape.is_scalar() {
-                return flat_form(alloc, first, second, 3, 1);
-            }
-            Ok(None)
-        }
+        Operation::And => flat_form(alloc, first, second, jumps),
+        Operation::Or => flat_form(alloc, first, second, jumps),
+        Operation::Arithmetic(_) => flat_form(alloc, first, second, plain),
+        Operation::Compare(_) => masses_form(alloc, first, second),
+        Operation::TestText(_) => masses_form(alloc, first, second),
         Operation::Concat => {
             if first.shape.is_text() && second.shape.is_text() {
-                return text_form(alloc, first, second, 1, 1, Gives::Sum);
+                return text_form(alloc, first, second, joined);
             }
-            Ok(None)
+            joined_form(alloc, first, second)
         }
         Operation::ListIndex => index_form(alloc, first, second),
         Operation::MapIndex => Ok(None),
         Operation::InMap => Ok(None),
-        Operation::InList => Ok(None),
+        Operation::InList => member_form(alloc, first, second),
         Operation::Negate => Ok(None),
         Operation::Not => Ok(None),
         Operation::NotStrictlyFalse => Ok(None),
@@ -244,7 +283,99 @@ fn index_form(alloc: Global, list: &Form, index: &Form) -> Result<Option<Form>, 
         → Forms list.now x l → Forms index.now y l
         → Forms f (typed_call t (Operate operations.ListIndex) (typed x (typed y no_typed))) l)) }
 {
-    let formula = both(alloc, &list.formula, &index.formula, 1, 0, Gives::First)?;
+    let rule = Rule {
+        charge: 1,
+        first: 0,
+        second: 0,
+        gives: Gives::First,
+    };
+    let formula = both(alloc, &list.formula, &index.formula, rule)?;
     let shape = item_shape(alloc, &list.shape)?;
+    Ok(Some(Form { formula, shape }))
+}
+
+// The form of an operation that goes over both operands.
+fn masses_form(alloc: Global, first: &Form, second: &Form) -> Result<Option<Form>, AllocError>
+    ensures { IfOk result (λ found. IfSome found (λ f. (t : ValueType) (l : LimitsValue) (x y : TypedTree)
+        (o : Overload) → IsOverMasses o → Forms first.now x l → Forms second.now y l
+        → Forms f (typed_call t o (typed x (typed y no_typed))) l)) }
+{
+    let Some(one) = first.shape.mass() else {
+        return Ok(None);
+    };
+    let Some(other) = second.shape.mass() else {
+        return Ok(None);
+    };
+    let Some(charge) = charge_of(one, other) else {
+        return Ok(None);
+    };
+    let rule = Rule {
+        charge,
+        first: one.factor,
+        second: other.factor,
+        gives: Gives::Nothing,
+    };
+    flat_form(alloc, first, second, rule)
+}
+
+// The form of a search in a list whose number of items is known.
+fn member_form(alloc: Global, item: &Form, list: &Form) -> Result<Option<Form>, AllocError>
+    ensures { IfOk result (λ found. IfSome found (λ f. (t : ValueType) (l : LimitsValue) (x y : TypedTree)
+        → Forms item.now x l → Forms list.now y l
+        → Forms f (typed_call t (Operate operations.InList) (typed x (typed y no_typed))) l)) }
+{
+    let Some(count) = list.shape.count() else {
+        return Ok(None);
+    };
+    let Some(one) = item.shape.mass() else {
+        return Ok(None);
+    };
+    let Some(each) = one.times(count) else {
+        return Ok(None);
+    };
+    let Some(all) = list.shape.mass() else {
+        return Ok(None);
+    };
+    let Some(charge) = charge_of(each, all) else {
+        return Ok(None);
+    };
+    let rule = Rule {
+        charge,
+        first: each.factor,
+        second: all.factor,
+        gives: Gives::Nothing,
+    };
+    flat_form(alloc, item, list, rule)
+}
+
+// The form of two lists that are joined, if their numbers of items are known.
+fn joined_form(alloc: Global, first: &Form, second: &Form) -> Result<Option<Form>, AllocError>
+    ensures { IfOk result (λ found. IfSome found (λ f. (t : ValueType) (l : LimitsValue) (x y : TypedTree)
+        → Forms first.now x l → Forms second.now y l
+        → Forms f (typed_call t (Operate operations.Concat) (typed x (typed y no_typed))) l)) }
+{
+    let Shape::Items(count, items) = &first.shape else {
+        return Ok(None);
+    };
+    let Shape::Items(more, others) = &second.shape else {
+        return Ok(None);
+    };
+    let Some(all) = count.checked_add(*more) else {
+        return Ok(None);
+    };
+    let Some(charge) = all.checked_add(1) else {
+        return Ok(None);
+    };
+    let Some(each) = join_shapes(alloc, items, others)? else {
+        return Ok(None);
+    };
+    let rule = Rule {
+        charge,
+        first: 0,
+        second: 0,
+        gives: Gives::Greater,
+    };
+    let formula = both(alloc, &first.formula, &second.formula, rule)?;
+    let shape = Shape::Items(all, Rc::new(alloc, each)?);
     Ok(Some(Form { formula, shape }))
 }

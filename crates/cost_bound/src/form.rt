@@ -7,7 +7,6 @@ ghost use Rattle.cel_value.specs.Types.{ValueType};
 ghost use Rattle.cel_overload.specs.declared.overload.Overload.TheVariants.{Conditional};
 ghost use Rattle.cel_costs.specs.Costs.{cost_of, size_of};
 ghost use Rattle.cel_costs.specs.Sizes.{Size};
-ghost use Rattle.cost_bound.specs.declared.numbers.Gives.TheVariants.{Nothing};
 ghost use Rattle.cost_bound.specs.declared.shape.Shape as shapes;
 ghost use Rattle.cost_bound.specs.private.Formulas.{Gets, SameNumbers, both, formula_view, shape_view};
 ghost use Rattle.cost_bound.specs.private.Memos.{Forms};
@@ -15,7 +14,7 @@ ghost use Rattle.cost_bound.specs.private.ScopeView.{IsCounted, locals_view, sco
 ghost use Rattle.cost_bound.specs.private.SizeView.{size_view};
 
 use crate::formula::{both, either};
-use crate::numbers::{Formula, Gives, numbers_in};
+use crate::numbers::{Formula, Gives, Rule, numbers_in};
 use crate::scope::Scope;
 use crate::seen::Kind;
 use crate::shape::{Shape, join_shapes, size_by};
@@ -68,7 +67,7 @@ pub(crate) fn is_leaf(form: &Form) -> bool {
         Formula::Local { .. } => true,
         Formula::Maxima(_) => false,
         Formula::Either(_, _) => false,
-        Formula::Both { .. } => false,
+        Formula::Both(_, _, _) => false,
     }
 }
 
@@ -153,52 +152,34 @@ fn inner_local(alloc: Global, outside: u8) -> Result<Form, AllocError>
     })
 }
 
-/// The form of a flat answer, by those of two operands, a charge, and so many times their lengths.
+/// The form of a flat answer, by those of two operands and a rule.
 pub(crate) fn flat_form(
     alloc: Global,
     first: &Form,
     second: &Form,
-    charge: u64,
-    factor: u64,
+    rule: Rule,
 ) -> Result<Option<Form>, AllocError>
     ensures { IfOk result (λ found. IfSome found (λ f. SameNumbers (formula_view f.formula.value)
-        (both (formula_view first.now.formula.value) (formula_view second.now.formula.value) charge factor Nothing)
+        (both (formula_view first.now.formula.value) (formula_view second.now.formula.value) rule)
         × (shape_view f.shape ≡ shape_view shapes.Flat))) }
 {
-    let gives = Gives::Nothing;
-    let formula = both(
-        alloc,
-        &first.formula,
-        &second.formula,
-        charge,
-        factor,
-        gives,
-    )?;
+    let formula = both(alloc, &first.formula, &second.formula, rule)?;
     let shape = Shape::Flat;
     Ok(Some(Form { formula, shape }))
 }
 
-/// The same of a text, whose length the lengths of the operands give.
+/// The same of a text, whose length the rule gives.
 pub(crate) fn text_form(
     alloc: Global,
     first: &Form,
     second: &Form,
-    charge: u64,
-    factor: u64,
-    gives: Gives,
+    rule: Rule,
 ) -> Result<Option<Form>, AllocError>
     ensures { IfOk result (λ found. IfSome found (λ f. SameNumbers (formula_view f.formula.value)
-        (both (formula_view first.now.formula.value) (formula_view second.now.formula.value) charge factor gives)
+        (both (formula_view first.now.formula.value) (formula_view second.now.formula.value) rule)
         × (shape_view f.shape ≡ shape_view shapes.Text))) }
 {
-    let formula = both(
-        alloc,
-        &first.formula,
-        &second.formula,
-        charge,
-        factor,
-        gives,
-    )?;
+    let formula = both(alloc, &first.formula, &second.formula, rule)?;
     let shape = Shape::Text;
     Ok(Some(Form { formula, shape }))
 }
@@ -218,6 +199,12 @@ pub(crate) fn choice_form(
         return Ok(None);
     };
     let branches = either(alloc, &first.formula, &second.formula)?;
-    let formula = both(alloc, &branches, &tested.formula, 2, 0, Gives::First)?;
+    let rule = Rule {
+        charge: 2,
+        first: 0,
+        second: 0,
+        gives: Gives::First,
+    };
+    let formula = both(alloc, &branches, &tested.formula, rule)?;
     Ok(Some(Form { formula, shape }))
 }

@@ -2,11 +2,11 @@
 
 ghost use Rattle.std.specs.Prelude.{◌≡◌, ◌+◌, ◌*◌, ℕ, List, IfOk, IfSome, max};
 ghost use Rattle.cel_costs.specs.Sizes.{Size};
-ghost use Rattle.cost_bound.specs.private.Formulas.{FormulaTree, HasNumbers, SameNumbers, both, either, formula_view, given, greatest_at, maxima_view, term_at};
+ghost use Rattle.cost_bound.specs.private.Formulas.{FormulaTree, HasNumbers, SameNumbers, both, either, formula_view, given, greatest_at, maxima_view};
 
-use crate::maxima::{Maxima, join_named};
-use crate::numbers::{Formula, Gives, Numbers, both_numbers, either_numbers, fixed_numbers};
-use crate::term::{Term, add_term, copy_terms, join_terms, only_term};
+use crate::maxima::{Maxima, join_named, one_term};
+use crate::numbers::{Formula, Gives, Numbers, Rule, both_numbers, either_numbers, fixed_numbers};
+use crate::term::{Term, add_term, add_terms, copy_terms, join_terms, multiply_terms};
 use std::alloc::{AllocError, Global};
 use std::rc::Rc;
 
@@ -30,43 +30,25 @@ pub(crate) fn either(
     Ok(Rc::new(alloc, Formula::Either(one.clone()?, other.clone()?))?)
 }
 
-/// The formula of two expressions, a charge, and so many times their lengths.
+/// The formula of two expressions by a rule.
 pub(crate) fn both(
     alloc: Global,
     one: &Rc<Formula>,
     other: &Rc<Formula>,
-    charge: u64,
-    factor: u64,
-    gives: Gives,
+    rule: Rule,
 ) -> Result<Rc<Formula>, AllocError>
     ensures { IfOk result (λ formula. SameNumbers (formula_view formula.value)
-        (both (formula_view one.now.value) (formula_view other.now.value) charge factor gives)) }
+        (both (formula_view one.now.value) (formula_view other.now.value) rule)) }
 {
     if let (Some(first), Some(second)) = (fixed_numbers(one), fixed_numbers(other)) {
-        if let Some(formula) = fixed(both_numbers(first, second, charge, factor, gives)) {
+        if let Some(formula) = fixed(both_numbers(first, second, rule)) {
             return Ok(Rc::new(alloc, formula)?);
         }
     }
-    let rule = Rule {
-        charge,
-        factor,
-        gives,
-    };
     if let Some(maxima) = both_maxima(alloc, one, other, rule)? {
         return Ok(Rc::new(alloc, Formula::Maxima(maxima))?);
     }
-    let first = one.clone()?;
-    let second = other.clone()?;
-    Ok(Rc::new(
-        alloc,
-        Formula::Both {
-            first,
-            second,
-            charge,
-            factor,
-            gives,
-        },
-    )?)
+    Ok(Rc::new(alloc, Formula::Both(one.clone()?, other.clone()?, rule))?)
 }
 
 // The formula of these numbers, if they are known.
@@ -92,7 +74,7 @@ fn maxima_of(alloc: Global, formula: &Formula) -> Result<Option<Maxima>, AllocEr
         Formula::Local { outside, kind } => Ok(Some(Maxima::local(alloc, *outside, *kind)?)),
         Formula::Maxima(maxima) => Ok(Some(maxima.copy(alloc)?)),
         Formula::Either(_, _) => Ok(None),
-        Formula::Both { .. } => Ok(None),
+        Formula::Both(_, _, _) => Ok(None),
     }
 }
 
@@ -114,14 +96,6 @@ fn either_maxima(
     Ok(Some(first.either(alloc, &second)?))
 }
 
-/// The numbers of two expressions together: a charge, how often their lengths count, and the length.
-#[derive(Clone, Copy)]
-struct Rule {
-    charge: u64,
-    factor: u64,
-    gives: Gives,
-}
-
 // The maxima of two expressions by a rule.
 fn both_maxima(
     alloc: Global,
@@ -130,7 +104,7 @@ fn both_maxima(
     rule: Rule,
 ) -> Result<Option<Maxima>, AllocError>
     ensures { IfOk result (λ found. IfSome found (λ m. SameNumbers (maxima_view m)
-        (both (formula_view one.now) (formula_view other.now) rule.charge rule.factor rule.gives))) }
+        (both (formula_view one.now) (formula_view other.now) rule))) }
 {
     let Some(first) = maxima_of(alloc, one)? else {
         return Ok(None);
@@ -152,7 +126,7 @@ fn both_maxima(
     }))
 }
 
-// The terms of the cost, if the second one has one term, and the lengths that count have one each.
+// The terms of the cost, if there are not too many.
 fn cost_terms(
     alloc: Global,
     first: &Maxima,
@@ -161,42 +135,36 @@ fn cost_terms(
 ) -> Result<Option<Vec<Term>>, AllocError>
     ensures { IfOk result (λ found. IfSome found (λ all. (sizes : List Size) → greatest_at all.items sizes
         ≡ greatest_at first.now.costs.items sizes + greatest_at second.now.costs.items sizes
-        + (rule.charge + rule.factor * (greatest_at first.now.lengths.items sizes
-        + greatest_at second.now.lengths.items sizes)))) }
+        + (rule.charge + (rule.first * greatest_at first.now.lengths.items sizes
+        + rule.second * greatest_at second.now.lengths.items sizes)))) }
 {
-    let Some(cost) = only_term(&second.costs) else {
+    let Some(costs) = add_terms(alloc, &first.costs, &second.costs)? else {
         return Ok(None);
     };
-    let Some(paid) = cost.plus(alloc, &Term::fixed(alloc, rule.charge))? else {
+    let Some(one) = counted(alloc, &first.lengths, rule.first)? else {
         return Ok(None);
     };
-    match rule.factor {
-        0 => add_term(alloc, &first.costs, &paid),
-        1 => {
-            let Some(lengths) = length_sum(alloc, &first.lengths, &second.lengths)? else {
-                return Ok(None);
-            };
-            let Some(all) = paid.plus(alloc, &lengths)? else {
-                return Ok(None);
-            };
-            add_term(alloc, &first.costs, &all)
-        }
-        _ => Ok(None),
-    }
+    let Some(other) = counted(alloc, &second.lengths, rule.second)? else {
+        return Ok(None);
+    };
+    let Some(lengths) = add_terms(alloc, &one, &other)? else {
+        return Ok(None);
+    };
+    let Some(charged) = add_term(alloc, &lengths, &Term::fixed(alloc, rule.charge))? else {
+        return Ok(None);
+    };
+    add_terms(alloc, &costs, &charged)
 }
 
-// The sum of two lengths of one term each.
-fn length_sum(alloc: Global, one: &[Term], other: &[Term]) -> Result<Option<Term>, AllocError>
-    ensures { IfOk result (λ found. IfSome found (λ term. (sizes : List Size) → term_at term sizes
-        ≡ greatest_at one.now sizes + greatest_at other.now sizes)) }
+// So many times each length; a single term for none.
+fn counted(alloc: Global, lengths: &[Term], factor: u64) -> Result<Option<Vec<Term>>, AllocError>
+    ensures { IfOk result (λ found. IfSome found (λ all. (sizes : List Size) → greatest_at all.items sizes
+        ≡ factor * greatest_at lengths.now sizes)) }
 {
-    let Some(first) = only_term(one) else {
-        return Ok(None);
-    };
-    let Some(second) = only_term(other) else {
-        return Ok(None);
-    };
-    first.plus(alloc, second)
+    if factor == 0 {
+        return Ok(Some(one_term(alloc, Term::fixed(alloc, 0))?));
+    }
+    multiply_terms(alloc, lengths, factor)
 }
 
 // The terms of the length that two expressions give.
@@ -210,18 +178,9 @@ fn length_terms(
         ≡ given gives (greatest_at first.now.lengths.items sizes) (greatest_at second.now.lengths.items sizes))) }
 {
     match gives {
-        Gives::Nothing => {
-            let mut none = Vec::new(alloc);
-            none.push(Term::fixed(alloc, 0))?;
-            Ok(Some(none))
-        }
+        Gives::Nothing => { Ok(Some(one_term(alloc, Term::fixed(alloc, 0))?)) }
         Gives::First => Ok(Some(copy_terms(alloc, &first.lengths)?)),
-        Gives::Sum => {
-            let Some(more) = only_term(&second.lengths) else {
-                return Ok(None);
-            };
-            add_term(alloc, &first.lengths, more)
-        }
+        Gives::Sum => { add_terms(alloc, &first.lengths, &second.lengths) }
         Gives::Greater => Ok(Some(join_terms(alloc, &first.lengths, &second.lengths)?)),
     }
 }

@@ -12,7 +12,7 @@ ghost use Rattle.cost_bound.specs.private.Memos.{Forms, MemoHoldsEach, memo_view
 use crate::form::Form;
 use crate::formula::both;
 use crate::memo::{Memo, form_at};
-use crate::numbers::{Formula, Gives};
+use crate::numbers::{Formula, Gives, Rule};
 use crate::shape::{Shape, join_shapes};
 use cel_types::TypedExpr;
 use std::alloc::{AllocError, Global};
@@ -39,7 +39,13 @@ pub(crate) fn list_form(
         return Ok(None);
     };
     let none = Rc::new(alloc, Formula::Fixed { cost: 0, length: 0 })?;
-    let formula = both(alloc, &each.formula, &none, charge, 0, Gives::First)?;
+    let rule = Rule {
+        charge,
+        first: 0,
+        second: 0,
+        gives: Gives::First,
+    };
+    let formula = both(alloc, &each.formula, &none, rule)?;
     let shape = Shape::Items(count, Rc::new(alloc, each.shape)?);
     Ok(Some(Form { formula, shape }))
 }
@@ -83,6 +89,12 @@ fn item_before(alloc: Global, item: &Form, after: &Form) -> Result<Option<Form>,
     let Some(shape) = join_shapes(alloc, &item.shape, &after.shape)? else {
         return Ok(None);
     };
-    let formula = both(alloc, &item.formula, &after.formula, 0, 0, Gives::Greater)?;
+    let rule = Rule {
+        charge: 0,
+        first: 0,
+        second: 0,
+        gives: Gives::Greater,
+    };
+    let formula = both(alloc, &item.formula, &after.formula, rule)?;
     Ok(Some(Form { formula, shape }))
 }

@@ -7,7 +7,7 @@ ghost use Rattle.cel_costs.specs.Sizes.{Size};
 ghost use Rattle.cost_bound.specs.private.Formulas.{AreKinds, SameNumbers, either, fixed, kind_of, local, maxima_view, seen_all};
 
 use crate::seen::{Kind, Seen, is_of_kind};
-use crate::term::{Term, copy_terms, join_terms};
+use crate::term::{Term, Times, copy_terms, join_terms};
 use std::alloc::{AllocError, Global};
 
 /// A local, and the kind of its size.
@@ -90,7 +90,8 @@ pub(crate) fn join_named(
     Ok(all)
 }
 
-fn one_term(alloc: Global, term: Term) -> Result<Vec<Term>, AllocError>
+/// A single term.
+pub(crate) fn one_term(alloc: Global, term: Term) -> Result<Vec<Term>, AllocError>
     ensures { IfOk result (λ terms. terms.items ≡ term ∷ []) }
 {
     let mut terms = Vec::new(alloc);
@@ -122,7 +123,10 @@ impl Maxima {
             kind,
         })?;
         let mut locals = Vec::new(alloc);
-        locals.push(outside)?;
+        locals.push(Times {
+            local: outside,
+            times: 1,
+        })?;
         let lengths = one_term(alloc, Term { charge: 0, locals })?;
         let costs = one_term(alloc, Term::fixed(alloc, 1))?;
         Ok(Maxima {

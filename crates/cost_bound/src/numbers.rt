@@ -19,27 +19,25 @@ use std::rc::Rc;
 #[derive(Drop)]
 pub(crate) enum Formula {
     /// These two numbers.
-    Fixed {
-        cost: u64,
-        length: u64,
-    },
+    Fixed { cost: u64, length: u64 },
     /// A local whose size is of this kind.
-    Local {
-        outside: u8,
-        kind: Kind,
-    },
+    Local { outside: u8, kind: Kind },
     /// The greatest of terms.
     Maxima(Maxima),
     /// Of two expressions, the greater cost and the greater length.
     Either(Rc<Formula>, Rc<Formula>),
-    /// The costs of two expressions, a charge, and so many times their lengths.
-    Both {
-        first: Rc<Formula>,
-        second: Rc<Formula>,
-        charge: u64,
-        factor: u64,
-        gives: Gives,
-    },
+    /// Of two expressions, the numbers by a rule.
+    Both(Rc<Formula>, Rc<Formula>, Rule),
+}
+
+/// How the numbers of two expressions give those of a third: a charge besides both costs, how many times each length
+/// counts, and the length.
+#[derive(Clone, Copy)]
+pub(crate) struct Rule {
+    pub(crate) charge: u64,
+    pub(crate) first: u64,
+    pub(crate) second: u64,
+    pub(crate) gives: Gives,
 }
 
 /// The length that two expressions give.
@@ -102,16 +100,10 @@ fn evaluate(formula: &Formula, locals: &[Seen]) -> Numbers
         Formula::Either(first, second) => {
             either_numbers(evaluate(first, locals), evaluate(second, locals))
         }
-        Formula::Both {
-            first,
-            second,
-            charge,
-            factor,
-            gives,
-        } => {
+        Formula::Both(first, second, rule) => {
             let one = evaluate(first, locals);
             let other = evaluate(second, locals);
-            both_numbers(one, other, *charge, *factor, *gives)
+            both_numbers(one, other, *rule)
         }
     }
 }
@@ -165,21 +157,19 @@ pub(crate) fn either_numbers(one: Numbers, other: Numbers) -> Numbers
     }
 }
 
-/// The numbers of two expressions, a charge, and so many times their lengths.
-pub(crate) fn both_numbers(
-    one: Numbers,
-    other: Numbers,
-    charge: u64,
-    factor: u64,
-    gives: Gives,
-) -> Numbers
+/// The numbers of two expressions by a rule.
+pub(crate) fn both_numbers(one: Numbers, other: Numbers, rule: Rule) -> Numbers
     ensures { (p q : FormulaTree) (sizes : List Size) → HasNumbers p sizes one → HasNumbers q sizes other
-        → HasNumbers (both p q charge factor gives) sizes result }
+        → HasNumbers (both p q rule) sizes result }
 {
-    let own = sum(charge, product(factor, sum(one.length, other.length)));
+    let lengths = sum(
+        product(rule.first, one.length),
+        product(rule.second, other.length),
+    );
+    let own = sum(rule.charge, lengths);
     Numbers {
         cost: sum(sum(one.cost, other.cost), own),
-        length: gives.length(one.length, other.length),
+        length: rule.gives.length(one.length, other.length),
     }
 }
 
@@ -195,6 +185,6 @@ pub(crate) fn fixed_numbers(formula: &Formula) -> Option<Numbers>
         Formula::Local { .. } => None,
         Formula::Maxima(_) => None,
         Formula::Either(_, _) => None,
-        Formula::Both { .. } => None,
+        Formula::Both(_, _, _) => None,
     }
 }

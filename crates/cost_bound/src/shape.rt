@@ -1,10 +1,10 @@
 //! Shapes: sizes by a length that a formula gives.
 
-ghost use Rattle.std.specs.Prelude.{◌≡◌, ◌+◌, ℕ, IfOk, IfSome, IsTrue, List, max};
+ghost use Rattle.std.specs.Prelude.{◌≡◌, ◌+◌, ◌*◌, ℕ, IfOk, IfSome, IsTrue, List, max};
 ghost use Rattle.cel_types.specs.TypedMeaning.{local_at};
 ghost use Rattle.cel_costs.specs.Costs.{known, value_size};
-ghost use Rattle.cel_costs.specs.Sizes.{Size, join, mass_of};
-ghost use Rattle.cost_bound.specs.private.Formulas.{HasShape, flat, joined, lengthy, shape_view};
+ghost use Rattle.cel_costs.specs.Sizes.{Size, join};
+ghost use Rattle.cost_bound.specs.private.Formulas.{HasCount, HasMass, HasShape, flat, joined, lengthy, shape_view};
 ghost use Rattle.cost_bound.specs.private.ScopeView.{IsCounted, locals_view, scope_view};
 ghost use Rattle.cost_bound.specs.private.SizeView.{size_view};
 
@@ -28,6 +28,54 @@ pub(crate) enum Shape {
     Item(Rc<Shape>),
 }
 
+/// The mass of sizes by their length: a charge, and so many times the length.
+#[derive(Clone, Copy)]
+pub(crate) struct Mass {
+    pub(crate) charge: u64,
+    pub(crate) factor: u64,
+}
+
+impl Mass {
+    /// So many times this mass, if its numbers have 64 bits.
+    pub(crate) fn times(self, count: u64) -> Option<Mass>
+        ensures { IfSome result (λ m. (m.charge ≡ count * self.charge) × (m.factor ≡ count * self.factor)) }
+    {
+        let Some(charge) = count.checked_mul(self.charge) else {
+            return None;
+        };
+        match count.checked_mul(self.factor) {
+            Some(factor) => Some(Mass { charge, factor }),
+            None => None,
+        }
+    }
+
+    // The mass of a list of so many items of this mass.
+    fn of_list(self, count: u64) -> Option<Mass>
+        ensures { IfSome result (λ m. (m.charge ≡ 1 + count * self.charge) × (m.factor ≡ count * self.factor)) }
+    {
+        let Some(all) = self.times(count) else {
+            return None;
+        };
+        match all.charge.checked_add(1) {
+            Some(charge) => Some(Mass {
+                charge,
+                factor: all.factor,
+            }),
+            None => None,
+        }
+    }
+}
+
+/// The charge of an instruction that goes over two masses, but for so many times the lengths.
+pub(crate) fn charge_of(one: Mass, other: Mass) -> Option<u64>
+    ensures { IfSome result (λ charge. charge ≡ 1 + (one.charge + other.charge)) }
+{
+    match one.charge.checked_add(other.charge) {
+        Some(both) => both.checked_add(1),
+        None => None,
+    }
+}
+
 impl Shape {
     /// Another owner of the same shape.
     pub(crate) fn copy(&self) -> Result<Shape, AllocError>
@@ -42,17 +90,38 @@ impl Shape {
         }
     }
 
-    /// Whether the mass of such a size is 1 and the length.
-    pub(crate) fn is_scalar(&self) -> bool
-        ensures { IsTrue result → (n : ℕ) (sizes : List Size) (s : Size)
-            → HasShape (shape_view self.now) n sizes s → mass_of s ≡ 1 + n }
+    /// The mass of such a size, if the length gives it and its numbers have 64 bits.
+    pub(crate) fn mass(&self) -> Option<Mass>
+        ensures { IfSome result (HasMass (shape_view self.now)) }
     {
         match self {
-            Shape::Flat => true,
-            Shape::Text => true,
-            Shape::Joined(_) => false,
-            Shape::Items(_, _) => false,
-            Shape::Item(_) => false,
+            Shape::Flat => Some(Mass {
+                charge: 1,
+                factor: 0,
+            }),
+            Shape::Text => Some(Mass {
+                charge: 1,
+                factor: 1,
+            }),
+            Shape::Joined(_) => None,
+            Shape::Items(count, items) => match items.mass() {
+                Some(each) => each.of_list(*count),
+                None => None,
+            },
+            Shape::Item(_) => None,
+        }
+    }
+
+    /// The number of items of such a list, if it is known.
+    pub(crate) fn count(&self) -> Option<u64>
+        ensures { IfSome result (HasCount (shape_view self.now)) }
+    {
+        match self {
+            Shape::Items(count, _) => Some(*count),
+            Shape::Flat => None,
+            Shape::Text => None,
+            Shape::Joined(_) => None,
+            Shape::Item(_) => None,
         }
     }
 

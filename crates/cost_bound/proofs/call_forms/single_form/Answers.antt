@@ -8,7 +8,7 @@ use Rattle.cel_value.specs.Types.{ValueType}
 use Rattle.cost_bound.specs.declared.form.Form.{Form}
 use Rattle.cost_bound.specs.declared.numbers.Gives.TheVariants as gives
 use Rattle.cost_bound.specs.declared.shape.Shape.{Flat as FlatShape}
-use Rattle.cost_bound.specs.private.Formulas.{SameNumbers, both, formula_view, shape_view}
+use Rattle.cost_bound.specs.private.Formulas.{SameNumbers, both, counting, formula_view, shape_view}
 use Rattle.cost_bound.specs.private.Memos.{Forms}
 use Rattle.cost_bound.proofs.FormRules.{found_then, length_form}
 use Rattle.cost_bound.proofs.Shapes.{view_flat}
@@ -17,7 +17,7 @@ use Rattle.cost_bound.proofs.call_forms.single_form.Goals as goal
 pub returns-then-is_text : goal.returns-then-is_text
 returns-then-is_text c =
     let then : (f : Form) → SameNumbers (formula_view f.formula.value)
-    (both (formula_view c.args.form.now.formula.value) (formula_view c.in_ok-none.none.formula.value) 1 1 gives.Nothing)
+    (both (formula_view c.args.form.now.formula.value) (formula_view c.in_ok-none.none.formula.value) (counting 1 gives.Nothing))
     × (shape_view f.shape ≡ shape_view FlatShape)
     → (t : ValueType) (l : LimitsValue) → Forms c.args.form.now (expr_view c.args.operand.now) l
     → Forms f (typed_call t (overloads.Operate operations.Size) (typed (expr_view c.args.operand.now) no_typed)) l =

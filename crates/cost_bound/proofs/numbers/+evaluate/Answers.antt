@@ -18,7 +18,7 @@ returns-in-Either t c =
 pub returns-in-Both : goal.returns-in-Both
 returns-in-Both t c =
     let seen = ap formula_view c.in-Both.is
-    ∙ view_both c.in-Both.first c.in-Both.second c.in-Both.charge c.in-Both.factor c.in-Both.gives in
+    ∙ view_both c.in-Both.first c.in-Both.second c.in-Both.rule in
     let one = rw c.deref-in-Both.ensures at c.evaluate-one.ensures in
     let other = rw c.deref-in-Both-2.ensures at c.evaluate-other.ensures in
     rw seen (λ sizes all. c.both_numbers.ensures _ _ sizes (one sizes all) (other sizes all))

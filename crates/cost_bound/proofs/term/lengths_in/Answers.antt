@@ -7,6 +7,6 @@ pub loop-at-preserved : goal.loop-at-preserved
 loop-at-preserved c =
     let before = c.loop-at.invariant in (
       omega (arith, before.0),
-      λ sizes all. c.sum-lengths.ensures _ _ (c.length_of.ensures sizes all) (before.1 sizes all)
-          ∙ ap capped (sym (lengths_before c.args.names.now c.loop-at.at sizes c.loop-at-test.true before.0)),
+      λ sizes all. c.sum-lengths.ensures _ _ (c.times_in.ensures sizes all) (before.1 sizes all)
+          ∙ ap capped (sym (lengths_before c.args.names.now c.loop-at.at _ sizes c.loop-at-test.true before.0)),
     )
