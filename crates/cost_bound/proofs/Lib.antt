@@ -9,6 +9,7 @@ pub mod Steps
 pub mod Counting
 pub mod Alike
 pub mod Joins
+pub mod Lasting
 pub mod Choices
 pub mod Pairs
 pub mod MemoViews

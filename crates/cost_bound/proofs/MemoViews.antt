@@ -4,9 +4,9 @@ use Rattle.std.specs.declared.vec.Vec.{Vec}
 use Rattle.std.specs.declared.alloc.Global.{Global}
 use Rattle.std.specs.declared.rc.Rc.{Rc}
 use Rattle.cost_bound.specs.declared.form.Form.{Form}
-use Rattle.cost_bound.specs.declared.memo.Memo.{Memo, Unknown, Known, Costly, Formed, Parts, the_lemmas}
+use Rattle.cost_bound.specs.declared.memo.Memo.{Memo, Unknown, Known, Costly, Formed, Parts, Lasting, the_lemmas}
 use Rattle.cost_bound.specs.declared.size.ValueSize.{ValueSize}
-use Rattle.cost_bound.specs.private.Memos.{nothing_known, known_as, more_than, formed, parts_known, memo_at, memo_view, memos_view}
+use Rattle.cost_bound.specs.private.Memos.{nothing_known, known_as, more_than, formed, parts_known, lasting, memo_at, memo_view, memos_view}
 use Rattle.cost_bound.specs.private.Formulas.{formula_view, shape_view}
 use Rattle.cost_bound.specs.private.SizeView.{size_view}
 
@@ -25,6 +25,9 @@ view_formed f = search (rules, the_lemmas)
 
 pub view_parts : (ms : Vec Memo Global) → memo_view (Parts ms) ≡ parts_known (memos_view ms.items)
 view_parts ms = search (rules, the_lemmas)
+
+pub view_lasting : (ms : Rc (Vec Memo Global) Global) → memo_view (Lasting ms) ≡ lasting (memos_view ms.value.items)
+view_lasting ms = search (rules, the_lemmas)
 
 -- the memo at a place within
 pub at_place : (ms : List Memo) (i : ℕ) (m : Memo) → m ≡ get_or ms i m → i < length ms

@@ -12,7 +12,7 @@ use Rattle.cel_types.specs.declared.typed.Variables.{Variables}
 use Rattle.cel_value.specs.Types.{ValueType}
 use Rattle.cel_costs.specs.Costs.{cost_of, size_of}
 use Rattle.cel_costs.specs.Sizes.{Size}
-use Rattle.cost_bound.specs.private.Memos.{MemoTree, nothing_known, known_as, more_than, formed, parts_known, MemoTrees, memo_at, part_at, Says, HoldsForAll, MemoHolds, MemoHoldsEach, MemoHoldsInside, InTurns, IsSettled, IsTold, NamesOnly}
+use Rattle.cost_bound.specs.private.Memos.{MemoTree, nothing_known, known_as, more_than, formed, parts_known, lasting, MemoTrees, memo_at, part_at, Says, HoldsForAll, MemoHolds, MemoHoldsEach, MemoHoldsInside, InTurns, IsSettled, IsTold, NamesOnly}
 use Rattle.cost_bound.specs.private.Memos.{Remembers}
 use Rattle.cost_bound.specs.private.Formulas.{FormulaTree, IsForm, ShapeTree}
 use Rattle.cost_bound.specs.private.Numbers.{capped}
@@ -73,6 +73,7 @@ says_of_kind (known_as s c) t u p l ss h = h
 says_of_kind (more_than n) t u p l ss h = h
 says_of_kind (formed q sh) t u p l ss h = h
 says_of_kind (parts_known ms) t u p l ss h = tt
+says_of_kind (lasting ms) t u p l ss h = h
 
 pub holds_of_kind : (m : MemoTree) (t u : ValueType) (p : TypedParts) (l : LimitsValue) (ss : List Size)
     → MemoHolds m (loop_of t p) l ss → MemoHolds m (loop_of u p) l ss

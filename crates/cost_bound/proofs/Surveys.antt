@@ -16,7 +16,7 @@ use Rattle.cel_value.specs.Types.{ValueType}
 use Rattle.cel_costs.specs.Sizes.{Size}
 use Rattle.cost_bound.proofs.Remembering.{part_holds}
 use Rattle.cost_bound.specs.declared.form.Form.{Form}
-use Rattle.cost_bound.specs.private.Memos.{MemoTree, MemoTrees, memo_at, part_at, FormAt, Forms, Says, HoldsForAll, MemoHolds, MemoHoldsEach}
+use Rattle.cost_bound.specs.private.Memos.{MemoTree, MemoTrees, memo_at, part_at, FormAt, Forms, Says, HoldsForAll, IsLasting, Lasts, MemoHolds, MemoHoldsEach}
 
 module _ (m : MemoTree) (silent : (d : TypedTree) (k : LimitsValue) (sizes : List Size) → Says m d k sizes) where
   -- of a loop, by what is known of its parts
@@ -48,19 +48,19 @@ module _ (m : MemoTree) (silent : (d : TypedTree) (k : LimitsValue) (sizes : Lis
 
 -- of a call or a literal, by what is known of the expressions in it
 pub call_surveyed : (m : MemoTree) (t : ValueType) (o : Overload) (es : TypedTrees) (l : LimitsValue)
-    → ((d : TypedTree) (k : LimitsValue) (sizes : List Size) → Says m d k sizes)
-    × ((sizes : List Size) → MemoHoldsEach m 0 es l sizes) → HoldsForAll m (typed_call t o es) l
-call_surveyed m t o es l h = λ ss. (h.0 _ l ss, h.1 ss)
+    → IsLasting m × ((d : TypedTree) (k : LimitsValue) (sizes : List Size) → Says m d k sizes)
+    × ((sizes : List Size) → MemoHoldsEach m 0 es l sizes) → Lasts m (typed_call t o es) l
+call_surveyed m t o es l h = (h.0, λ ss. (h.1 _ l ss, h.2 ss))
 
 pub list_surveyed : (m : MemoTree) (t : ValueType) (es : TypedTrees) (l : LimitsValue)
-    → ((d : TypedTree) (k : LimitsValue) (sizes : List Size) → Says m d k sizes)
-    × ((sizes : List Size) → MemoHoldsEach m 0 es l sizes) → HoldsForAll m (typed_list t es) l
-list_surveyed m t es l h = λ ss. (h.0 _ l ss, h.1 ss)
+    → IsLasting m × ((d : TypedTree) (k : LimitsValue) (sizes : List Size) → Says m d k sizes)
+    × ((sizes : List Size) → MemoHoldsEach m 0 es l sizes) → Lasts m (typed_list t es) l
+list_surveyed m t es l h = (h.0, λ ss. (h.1 _ l ss, h.2 ss))
 
 pub map_surveyed : (m : MemoTree) (t : ValueType) (es : TypedTrees) (l : LimitsValue)
-    → ((d : TypedTree) (k : LimitsValue) (sizes : List Size) → Says m d k sizes)
-    × ((sizes : List Size) → MemoHoldsEach m 0 es l sizes) → HoldsForAll m (typed_map t es) l
-map_surveyed m t es l h = λ ss. (h.0 _ l ss, h.1 ss)
+    → IsLasting m × ((d : TypedTree) (k : LimitsValue) (sizes : List Size) → Says m d k sizes)
+    × ((sizes : List Size) → MemoHoldsEach m 0 es l sizes) → Lasts m (typed_map t es) l
+map_surveyed m t es l h = (h.0, λ ss. (h.1 _ l ss, h.2 ss))
 
 -- the expression at a place
 picked : (es : List TypedExpr) (i : ℕ) → i < length es → (x : TypedExpr) × (x ≡ get_or es i x)

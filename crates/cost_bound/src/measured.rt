@@ -106,5 +106,6 @@ fn recall_known(
             }))
         }
         Memo::Parts(_) => Ok(None),
+        Memo::Lasting(_) => Ok(None),
     }
 }

@@ -5,11 +5,11 @@ ghost use Rattle.attributes.specs.Limits.{LimitsValue};
 ghost use Rattle.cel_types.specs.Elaborated.{TypedTree};
 ghost use Rattle.cel_costs.specs.Sizes.{Size};
 ghost use Rattle.cost_bound.specs.private.Formulas.{formula_view, shape_view};
-ghost use Rattle.cost_bound.specs.private.Memos.{FormAt, Says, formed, known_view, memo_at, memo_view, memos_view, nothing_known, part_at};
+ghost use Rattle.cost_bound.specs.private.Memos.{FormAt, HoldsForAll, IsLasting, MemoHolds, Says, formed, known_view, memo_at, memo_view, memos_view, nothing_known, part_at};
 
 use crate::form::Form;
 use crate::size::ValueSize;
-use std::alloc::AllocError;
+use std::alloc::{AllocError, Global};
 use std::rc::Rc;
 
 /// A memo of an expression. Measuring a loop remembers in it what no turn changes.
@@ -25,6 +25,8 @@ pub(crate) enum Memo {
     Formed(Rc<Form>),
     /// The memos of its parts, each at its place. Nothing is known of parts after the last one.
     Parts(Vec<Memo>),
+    /// The same of memos that have nothing but forms.
+    Lasting(Rc<Vec<Memo>>),
 }
 
 /// The memo of the part at a place.
@@ -46,13 +48,18 @@ pub(crate) fn part_of(memo: &Memo, place: usize) -> Option<&Memo>
         Memo::Known { .. } => None,
         Memo::Costly { .. } => None,
         Memo::Formed(_) => None,
-        Memo::Parts(parts) => {
-            if place < parts.len() {
-                return Some(&parts[place]);
-            }
-            None
-        }
+        Memo::Parts(parts) => memo_at(parts, place),
+        Memo::Lasting(parts) => memo_at(parts, place),
     }
+}
+
+fn memo_at(parts: &[Memo], place: usize) -> Option<&Memo>
+    ensures { known_view result ≡ memo_at place (memos_view parts.now) }
+{
+    if place < parts.len() {
+        return Some(&parts[place]);
+    }
+    None
 }
 
 impl Memo {
@@ -66,6 +73,36 @@ impl Memo {
             return Memo::Unknown;
         }
         Memo::Parts(parts)
+    }
+
+    /// The same, of memos that have nothing but forms.
+    pub(crate) fn lasting(alloc: Global, parts: Vec<Memo>) -> Result<Memo, AllocError>
+        requires { (i : ℕ) → IsLasting (memo_at i (memos_view parts.items)) }
+        ensures at { IfOk result (λ memo. (i : ℕ)
+            → part_at i (memo_view memo) ≡ memo_at i (memos_view parts.items)) }
+        ensures lasting { IfOk result (λ memo. IsLasting (memo_view memo)) }
+        ensures says { IfOk result (λ memo. (e : TypedTree) (l : LimitsValue) (sizes : List Size)
+            → Says (memo_view memo) e l sizes) }
+    {
+        if parts.is_empty() {
+            return Ok(Memo::Unknown);
+        }
+        Ok(Memo::Lasting(Rc::new(alloc, parts)?))
+    }
+
+    /// Another owner of a memo that has nothing but forms; of any other, nothing is kept.
+    pub(crate) fn copy_lasting(&self) -> Result<Memo, AllocError>
+        ensures { IfOk result (λ same. (e : TypedTree) (l : LimitsValue) (sizes : List Size)
+            → MemoHolds (memo_view self.now) e l sizes → HoldsForAll (memo_view same) e l) }
+    {
+        match self {
+            Memo::Formed(form) => Ok(Memo::Formed(form.clone()?)),
+            Memo::Lasting(parts) => Ok(Memo::Lasting(parts.clone()?)),
+            Memo::Unknown => Ok(Memo::Unknown),
+            Memo::Known { .. } => Ok(Memo::Unknown),
+            Memo::Costly { .. } => Ok(Memo::Unknown),
+            Memo::Parts(_) => Ok(Memo::Unknown),
+        }
     }
 }
 
@@ -128,5 +165,6 @@ pub(crate) fn form_of(memo: &Memo) -> Option<&Form>
         Memo::Known { .. } => None,
         Memo::Costly { .. } => None,
         Memo::Parts(_) => None,
+        Memo::Lasting(_) => None,
     }
 }

@@ -7,14 +7,14 @@ ghost use Rattle.cel_types.specs.View.{expr_view, loop_of};
 ghost use Rattle.cel_types.specs.private.ExprViews.{exprs_view, parts_view};
 ghost use Rattle.cel_value.specs.Types.{ValueType};
 ghost use Rattle.cel_costs.specs.Sizes.{Size};
-ghost use Rattle.cost_bound.specs.private.Memos.{Forms, HoldsForAll, MemoHolds, MemoHoldsEach, Says, known_view, memo_view};
+ghost use Rattle.cost_bound.specs.private.Memos.{Forms, HoldsForAll, IsLasting, Lasts, MemoHolds, MemoHoldsEach, Says, known_view, memo_view};
 
 use crate::call_forms::call_form;
 use crate::form::{Form, leaf_form, local_form};
 use crate::known::{attribute_size, constant_size};
 use crate::list_forms::list_form;
 use crate::loops::has_loop;
-use crate::memo::{Memo, with_part};
+use crate::memo::{Memo, form_of, with_part};
 use attributes::Limits;
 use cel_types::{TypedExpr, TypedLoop};
 use std::alloc::{AllocError, Global};
@@ -37,7 +37,7 @@ pub(crate) fn first_memo(
 // The memo of an expression, with the forms of the largest expressions in it that have one.
 #[cycle(survey)]
 fn survey(alloc: Global, expr: &TypedExpr<'_>, limits: &Limits) -> Result<Memo, AllocError>
-    ensures { IfOk result (λ memo. HoldsForAll (memo_view memo) (expr_view expr.now) limits.now) }
+    ensures { IfOk result (λ memo. Lasts (memo_view memo) (expr_view expr.now) limits.now) }
 {
     match expr {
         TypedExpr::Constant { value, .. } => kept_as(
@@ -55,11 +55,13 @@ fn survey(alloc: Global, expr: &TypedExpr<'_>, limits: &Limits) -> Result<Memo, 
         }
         TypedExpr::Field { map, .. } => {
             let found = survey(alloc, map, limits)?;
-            Ok(Memo::of_parts(with_part(Vec::new(alloc), 0, found)?))
+            let one = with_part(Vec::new(alloc), 0, found)?;
+            Memo::lasting(alloc, one)
         }
         TypedExpr::HasField { map, .. } => {
             let found = survey(alloc, map, limits)?;
-            Ok(Memo::of_parts(with_part(Vec::new(alloc), 0, found)?))
+            let one = with_part(Vec::new(alloc), 0, found)?;
+            Memo::lasting(alloc, one)
         }
         TypedExpr::Call {
             overload,
@@ -83,7 +85,7 @@ fn survey(alloc: Global, expr: &TypedExpr<'_>, limits: &Limits) -> Result<Memo, 
 // Expressions in order: their memos are those of parts.
 #[cycle(survey)]
 fn survey_each(alloc: Global, exprs: &[TypedExpr<'_>], limits: &Limits) -> Result<Memo, AllocError>
-    ensures { IfOk result (λ memo. ((e : TypedTree) (l : LimitsValue) (sizes : List Size)
+    ensures { IfOk result (λ memo. IsLasting (memo_view memo) × ((e : TypedTree) (l : LimitsValue) (sizes : List Size)
         → Says (memo_view memo) e l sizes) × ((sizes : List Size)
         → MemoHoldsEach (memo_view memo) 0 (exprs_view exprs.now) limits.now sizes)) }
 {
@@ -94,13 +96,14 @@ fn survey_each(alloc: Global, exprs: &[TypedExpr<'_>], limits: &Limits) -> Resul
         parts = with_part(parts, place, found)?;
         place += 1;
     }
-    Ok(Memo::of_parts(parts))
+    let all = Memo::lasting(alloc, parts)?;
+    Ok(all)
 }
 
 // A loop: the memos of its parts.
 #[cycle(survey)]
 fn survey_loop(alloc: Global, parts: &TypedLoop<'_>, limits: &Limits) -> Result<Memo, AllocError>
-    ensures { (t : ValueType) → IfOk result (λ memo. HoldsForAll (memo_view memo)
+    ensures { (t : ValueType) → IfOk result (λ memo. Lasts (memo_view memo)
         (loop_of t (parts_view parts.now)) limits.now) }
 {
     let range = survey(alloc, &parts.range, limits)?;
@@ -113,13 +116,13 @@ fn survey_loop(alloc: Global, parts: &TypedLoop<'_>, limits: &Limits) -> Result<
     let four = with_part(three, 3, step)?;
     let end = survey(alloc, &parts.result, limits)?;
     let five = with_part(four, 4, end)?;
-    Ok(Memo::of_parts(five))
+    Memo::lasting(alloc, five)
 }
 
 // The memo with a form, if there is one.
 fn kept_as(alloc: Global, found: Option<Form>) -> Result<Memo, AllocError>
     ensures { (e : TypedTree) (l : LimitsValue) → IfSome found (λ f. Forms f e l)
-        → IfOk result (λ memo. HoldsForAll (memo_view memo) e l) }
+        → IfOk result (λ memo. Lasts (memo_view memo) e l) }
 {
     match found {
         Some(form) => Ok(Memo::Formed(Rc::new(alloc, form)?)),
@@ -130,7 +133,7 @@ fn kept_as(alloc: Global, found: Option<Form>) -> Result<Memo, AllocError>
 // The same, or else the memo of the parts.
 fn form_or(alloc: Global, found: Option<Form>, parts: Memo) -> Result<Memo, AllocError>
     ensures { (e : TypedTree) (l : LimitsValue) → IfSome found (λ f. Forms f e l)
-        → HoldsForAll (memo_view parts) e l → IfOk result (λ memo. HoldsForAll (memo_view memo) e l) }
+        → Lasts (memo_view parts) e l → IfOk result (λ memo. Lasts (memo_view memo) e l) }
 {
     match found {
         Some(form) => Ok(Memo::Formed(Rc::new(alloc, form)?)),
@@ -139,28 +142,34 @@ fn form_or(alloc: Global, found: Option<Form>, parts: Memo) -> Result<Memo, Allo
 }
 
 /// The memo of an expression that needs no look at it, if there is one: what an outer memo says for all sizes of
-/// the locals. Without a budget nothing is known.
+/// the locals. Without a budget all of that is kept, and nothing else is looked for.
 pub(crate) fn kept(memo: Option<&Memo>, left: u64) -> Result<Option<Memo>, AllocError>
     ensures { IfOk result (λ found. IfSome found (λ same. (e : TypedTree) (l : LimitsValue)
         (sizes : List Size) → MemoHolds (known_view memo.entry) e l sizes
         → HoldsForAll (memo_view same) e l)) }
 {
-    if left == 0 {
-        return Ok(Some(Memo::Unknown));
-    }
     match memo {
-        Some(known) => kept_form(known),
-        None => Ok(None),
+        Some(known) => kept_of(known, left),
+        None => {
+            if left == 0 {
+                return Ok(Some(Memo::Unknown));
+            }
+            Ok(None)
+        }
     }
 }
 
-fn kept_form(memo: &Memo) -> Result<Option<Memo>, AllocError>
+// The same of a memo.
+fn kept_of(memo: &Memo, left: u64) -> Result<Option<Memo>, AllocError>
     ensures { IfOk result (λ found. IfSome found (λ same. (e : TypedTree) (l : LimitsValue)
         (sizes : List Size) → MemoHolds (memo_view memo.now) e l sizes
         → HoldsForAll (memo_view same) e l)) }
 {
-    let Memo::Formed(form) = memo else {
-        return Ok(None);
-    };
-    Ok(Some(Memo::Formed(form.clone()?)))
+    if left == 0 {
+        return Ok(Some(memo.copy_lasting()?));
+    }
+    if form_of(memo).is_some() {
+        return Ok(Some(memo.copy_lasting()?));
+    }
+    Ok(None)
 }

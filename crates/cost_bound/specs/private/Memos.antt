@@ -18,13 +18,14 @@ use Rattle.cost_bound.specs.declared.steady.Around.{Around}
 
 mutual
   -- a memo: nothing; the size and the cost; a number that the cost exceeds; a formula of the cost and the shape of
-  -- the size; or memos of the parts
+  -- the size; memos of the parts; or memos of the parts that have nothing but forms
   pub data MemoTree : Type 0 where
     nothing_known : MemoTree
     known_as : (size : Size) → (cost : ℕ) → MemoTree
     more_than : (cost : ℕ) → MemoTree
     formed : FormulaTree → ShapeTree → MemoTree
     parts_known : MemoTrees → MemoTree
+    lasting : MemoTrees → MemoTree
 
   -- memos of parts, in order
   pub data MemoTrees : Type 0 where
@@ -43,6 +44,7 @@ memo_level (Memo-F.Known s c) = known_as (size_view s) c
 memo_level (Memo-F.Costly n) = more_than n
 memo_level (Memo-F.Formed f) = formed (formula_view f.value.formula.value) (shape_view f.value.shape)
 memo_level (Memo-F.Parts ms) = parts_known (memos_of ms.items)
+memo_level (Memo-F.Lasting ms) = lasting (memos_of ms.value.items)
 
 -- the memo that a `Memo` means
 abbrev pub memo_view : Memo → MemoTree
@@ -70,6 +72,22 @@ part_at i (known_as s c) = nothing_known
 part_at i (more_than n) = nothing_known
 part_at i (formed p sh) = nothing_known
 part_at i (parts_known ms) = memo_at i ms
+part_at i (lasting ms) = memo_at i ms
+
+abbrev mutual
+  -- the memo has nothing but forms, which hold for all sizes of the locals
+  pub IsLasting : MemoTree → Type 0
+  IsLasting nothing_known = Unit {0}
+  IsLasting (known_as s c) = ⊥
+  IsLasting (more_than n) = ⊥
+  IsLasting (formed p sh) = Unit {0}
+  IsLasting (parts_known ms) = ⊥
+  IsLasting (lasting ms) = AreLasting ms
+
+  -- the same for each of the memos
+  pub AreLasting : MemoTrees → Type 0
+  AreLasting no_memos = Unit {0}
+  AreLasting (memo m ms) = IsLasting m × AreLasting ms
 
 -- a form gives the size and the cost of an expression, for all sizes of the locals
 abbrev pub Forms : Form → TypedTree → LimitsValue → Type 0
@@ -86,6 +104,7 @@ Says (known_as s c) e l sizes = (s ≡ size_of e l sizes) × (c ≡ cost_of e l 
 Says (more_than n) e l sizes = n < cost_of e l sizes
 Says (formed p sh) e l sizes = IsForm p sh e l
 Says (parts_known ms) e l sizes = Unit {0}
+Says (lasting ms) e l sizes = AreLasting ms
 
 -- the memo states this size and cost, or a number that the cost exceeds
 abbrev pub IsTold : MemoTree → Size → ℕ → Type 0
@@ -135,6 +154,10 @@ MemoHolds m e l sizes = SaysAnd m e l sizes (MemoHoldsInside m e l sizes)
 -- all that a memo states is true for all sizes of the locals
 abbrev pub HoldsForAll : MemoTree → TypedTree → LimitsValue → Type 0
 HoldsForAll m e l = (sizes : List Size) → MemoHolds m e l sizes
+
+-- the same of a memo that has nothing but forms
+abbrev pub Lasts : MemoTree → TypedTree → LimitsValue → Type 0
+Lasts m e l = IsLasting m × HoldsForAll m e l
 
 -- a local measures the same in each turn of a loop: one of the `around` locals outside of the loop, or one
 -- of its variables. These come after the accumulator
