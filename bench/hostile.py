@@ -192,6 +192,71 @@ def made_with_tables():
         length(grown), entry)
 
 
+def over_locals(names, step):
+    """The same as `looped`, whose ranges are the variable of a loop around: a list of two items."""
+    grown = choice(step, X, X)
+    for level in reversed(range(len(names))):
+        grown = gather(ident(b"two"), X, plus(ident(names[level]), grown), X, names[level], b"x%d" % level)
+    found = gather(items(ones(2)), integer(0), length(grown), ident(b"all"), b"all", b"two")
+    return checked(call(b"_<_", found, integer(9)))
+
+
+def pairs_of(names):
+    return [(ident(one), ident(other)) for one in names for other in names if one != other]
+
+
+def is_in(item, of):
+    return call(b"@in", item, of)
+
+
+def is_same(one, other):
+    return call(b"_==_", one, other)
+
+
+def made_against_terms():
+    """Expressions made against terms: their names and their bytes."""
+    names = [b"t%d" % level for level in range(14)]
+    many = [b"t%d" % level for level in range(20)]
+    of_many = pairs_of(many)
+    yield "20 nested loops of 2 turns, with 200 branches that look for two joined texts in a list", looped(
+        many, choices([is_in(plus(one, other), items(other)) for one, other in of_many[:200]]))
+    threes = [(ident(one), ident(other), ident(names[at % 14])) for at, (one, other) in enumerate(
+        (one, other) for one in names for other in names if one != other)]
+    yield "14 nested loops of 2 turns, with 200 branches that compare lists of two texts with lists of one", looped(
+        names, choices([is_same(items(one, other), items(third)) for one, other, third in (threes * 2)[:200]]))
+    yield "14 nested loops over a local, with 280 branches that compare their texts", over_locals(
+        names, choices([is_same(one, other) for one, other in (pairs_of(names) * 2)[:280]]))
+
+
+def looped_lists(names, step):
+    """Loops of two turns, one in another, whose lists of texts grow by what the innermost one's step gives."""
+    grown = choice(step, items(X), items(X))
+    for level in reversed(range(len(names))):
+        grown = gather(ones(2), items(X), plus(ident(names[level]), grown), items(X), names[level], b"x%d" % level)
+    return checked(length(grown))
+
+
+def made_without_forms():
+    """Expressions whose branches have no form: their names and their bytes."""
+    names = [b"t%d" % level for level in range(14)]
+    two = pairs_of(names) * 2
+    yield "14 nested loops of 2 turns, with 280 branches that compare their lists", looped_lists(
+        names, choices([is_same(one, other) for one, other in two[:280]]))
+    yield "14 nested loops of 2 turns, with 200 branches that look for an item in their lists", looped_lists(
+        names, choices([is_in(first(one), other) for one, other in two[:200]]))
+    yield "14 nested loops of 2 turns, with 200 branches that join their lists", looped_lists(
+        names, choices([is_short(plus(one, other)) for one, other in two[:200]]))
+    yield "14 nested loops of 2 turns, with 200 branches that look for their texts in maps", looped(
+        names, choices([is_in(one, pairs((other, X))) for one, other in two[:200]]))
+    yield "14 nested loops of 2 turns, with 150 branches that compare maps", looped(
+        names, choices([is_same(pairs((one, other)), pairs((other, one))) for one, other in two[:150]]))
+    yield "14 nested loops of 2 turns, with 120 branches that compare results of loops", looped(
+        names, choices([is_same(gather(ones(1), one, plus(ident(b"q"), other), ident(b"q"), b"q", b"y"), other)
+                        for one, other in two[:120]]))
+    yield "14 nested loops of 2 turns, with 200 branches that compare bytes of texts", looped(
+        names, choices([is_same(call(b"bytes", one), call(b"bytes", other)) for one, other in two[:200]]))
+
+
 def is_short(of):
     return call(b"_<_", length(of), integer(9))
 
@@ -228,9 +293,6 @@ def within_shares():
         names = [b"t%d" % level for level in range(loops)]
         made = [make(ident(one), ident(other)) for one in names for other in names if one != other]
         return names, (made * count)[:count]
-
-    def is_same(one, other):
-        return call(b"_==_", one, other)
 
     def inner(of):
         return first(first(items(items(of))))
