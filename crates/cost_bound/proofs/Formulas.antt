@@ -14,7 +14,6 @@ use Rattle.cost_bound.specs.private.Formulas.{AreKinds, FormulaTree, fixed, loca
 use Rattle.cost_bound.specs.private.Numbers.{capped}
 use Rattle.cost_bound.specs.declared.maxima.Maxima.{Maxima}
 use Rattle.cost_bound.specs.declared.numbers.Formula.{Formula, Fixed, Local, Maxima as FormulaMaxima, Either, Both, the_lemmas}
-use Rattle.cost_bound.specs.declared.numbers.Gives.{Gives}
 use Rattle.cost_bound.specs.declared.seen.Kind.{Kind}
 use Rattle.cost_bound.specs.declared.numbers.Numbers.{Numbers}
 use Rattle.cost_bound.specs.declared.numbers.Rule.{Rule}

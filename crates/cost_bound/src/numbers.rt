@@ -30,8 +30,8 @@ pub(crate) enum Formula {
     Both(Rc<Formula>, Rc<Formula>, Rule),
 }
 
-/// How the numbers of two expressions give those of a third: a charge besides both costs, how many times each length
-/// counts, and the length.
+/// How the numbers of two expressions give those of a third: a charge that is added to both costs, how many times each
+/// length counts, and the length.
 #[derive(Clone, Copy)]
 pub(crate) struct Rule {
     pub(crate) charge: u64,

@@ -66,7 +66,7 @@ impl Mass {
     }
 }
 
-/// The charge of an instruction that goes over two masses, but for so many times the lengths.
+/// The charge of an instruction that goes over two masses, without what it takes for the lengths.
 pub(crate) fn charge_of(one: Mass, other: Mass) -> Option<u64>
     ensures { IfSome result (λ charge. charge ≡ 1 + (one.charge + other.charge)) }
 {

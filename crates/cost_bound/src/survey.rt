@@ -141,8 +141,8 @@ fn form_or(alloc: Global, found: Option<Form>, parts: Memo) -> Result<Memo, Allo
     }
 }
 
-/// The memo of an expression that needs no look at it, if there is one: what an outer memo says for all sizes of
-/// the locals. Without a budget all of that is kept, and nothing else is looked for.
+/// The memo of an expression that needs no look at it, if there is one. It is what an outer memo says for all sizes
+/// of the locals. Without a budget all of that is kept, and nothing else is looked for.
 pub(crate) fn kept(memo: Option<&Memo>, left: u64) -> Result<Option<Memo>, AllocError>
     ensures { IfOk result (λ found. IfSome found (λ same. (e : TypedTree) (l : LimitsValue)
         (sizes : List Size) → MemoHolds (known_view memo.entry) e l sizes

@@ -191,7 +191,7 @@ HasMass sh m = (n : ℕ) (ss : List Size) (s : Size) → HasShape sh n ss s → 
 abbrev pub HasCount : ShapeTree → ℕ → Type 0
 HasCount sh c = (n : ℕ) (ss : List Size) (s : Size) → HasShape sh n ss s → most_of s ≡ c
 
--- a call of two operands that costs 1 and their masses besides their costs, and whose answer is flat
+-- a call of two operands that costs 1, their costs and their masses, and whose answer is flat
 abbrev pub IsOverMasses : Overload → Type 0
 IsOverMasses o = (ts : List ValueType) (a b : ℕ) (s u : Size) → (call_size o (s ∷ u ∷ []) ≡ Flat)
     × (call_cost o ts (a ∷ b ∷ []) (s ∷ u ∷ []) ≡ a + b + (1 + (mass_of s + mass_of u)))

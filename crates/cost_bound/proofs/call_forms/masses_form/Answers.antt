@@ -1,8 +1,6 @@
 use Rattle.std.proofs.Common.{◌≡◌, ◌∙◌}
 use Rattle.attributes.specs.Limits.{LimitsValue}
-use Rattle.cel_ops.specs.declared.operation.Operation.TheVariants as operations
 use Rattle.cel_overload.specs.declared.overload.Overload.{Overload}
-use Rattle.cel_overload.specs.declared.overload.Overload.TheVariants as overloads
 use Rattle.cel_types.specs.Elaborated.{TypedTree, no_typed, typed, typed_call}
 use Rattle.cel_value.specs.Types.{ValueType}
 use Rattle.cost_bound.specs.declared.form.Form.{Form}

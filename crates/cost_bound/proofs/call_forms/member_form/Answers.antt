@@ -1,14 +1,13 @@
 use Rattle.std.proofs.Common.{◌≡◌, ◌∙◌}
 use Rattle.attributes.specs.Limits.{LimitsValue}
 use Rattle.cel_ops.specs.declared.operation.Operation.TheVariants as operations
-use Rattle.cel_overload.specs.declared.overload.Overload.{Overload}
 use Rattle.cel_overload.specs.declared.overload.Overload.TheVariants as overloads
 use Rattle.cel_types.specs.Elaborated.{TypedTree, no_typed, typed, typed_call}
 use Rattle.cel_value.specs.Types.{ValueType}
 use Rattle.cost_bound.specs.declared.form.Form.{Form}
 use Rattle.cost_bound.specs.declared.numbers.Gives.TheVariants as gives
 use Rattle.cost_bound.specs.declared.shape.Shape.{Flat as FlatShape}
-use Rattle.cost_bound.specs.private.Formulas.{IsOverMasses, SameNumbers, both, formula_view, shape_view}
+use Rattle.cost_bound.specs.private.Formulas.{SameNumbers, both, formula_view, shape_view}
 use Rattle.cost_bound.specs.private.Memos.{Forms}
 use Rattle.cost_bound.proofs.FormRules.{member_form, found_then}
 use Rattle.cost_bound.proofs.Shapes.{view_flat}

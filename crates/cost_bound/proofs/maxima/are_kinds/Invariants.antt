@@ -1,6 +1,5 @@
-use Rattle.std.proofs.Common.{◌≡◌, ℕ, ◌+◌, ◌<◌, ◌≤◌, List, [], length, drop, max}
+use Rattle.std.proofs.Common.{◌≡◌, ◌≤◌, List, length, drop}
 use Rattle.cel_costs.specs.Sizes.{Size}
-use Rattle.cost_bound.specs.private.Numbers.{capped}
 use Rattle.cost_bound.specs.private.Formulas.{AreKinds, seen_all}
 use Rattle.cost_bound.proofs.maxima.are_kinds.Given as goal
 

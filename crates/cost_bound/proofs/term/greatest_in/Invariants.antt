@@ -1,4 +1,4 @@
-use Rattle.std.proofs.Common.{◌≡◌, ℕ, ◌+◌, ◌<◌, ◌≤◌, List, [], length, drop, max}
+use Rattle.std.proofs.Common.{◌≡◌, ◌≤◌, List, length, drop}
 use Rattle.cel_costs.specs.Sizes.{Size}
 use Rattle.cost_bound.specs.private.Numbers.{capped}
 use Rattle.cost_bound.specs.private.Formulas.{greatest_at, seen_all}

@@ -1,5 +1,4 @@
-use Rattle.std.proofs.Common.{◌≡◌, length, drop, max, arith}
-use Rattle.std.proofs.Math.ListN.{drop_of_length-le}
+use Rattle.std.proofs.Common.{arith}
 use Rattle.cost_bound.proofs.Terms.{joined_before}
 use Rattle.cost_bound.proofs.term.join_terms.Goals as goal
 
