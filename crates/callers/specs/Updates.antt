@@ -1,7 +1,7 @@
 -- What a client of an update stream makes of further bytes: xDS REST and gRPC protocol, "ACK and NACK".
 use Rattle.std.specs.Prelude.{ℕ, List, Option, is_some}
 use Rattle.ads.specs.Client.{ClientValue, Feeds}
-use Rattle.ads.specs.Judgements.{TellsBy}
+use Rattle.ads.specs.Judgements.{ReportsJudgementsBy}
 use Rattle.ads.specs.declared.ended.Ended.{Ended}
 use Rattle.ads.specs.declared.judgement.Judgement.{Judgement}
 
@@ -9,4 +9,4 @@ use Rattle.ads.specs.declared.judgement.Judgement.{Judgement}
 abbrev pub IsFed : ClientValue → List ℕ → List ℕ → Option Ended → ClientValue → Type 0
 IsFed old bytes replies ended new = (versions : List (List ℕ)) × (judgements : List Judgement)
     × Feeds old bytes replies (is_some ended) versions new
-    × TellsBy old.stream old bytes replies judgements ended new
+    × ReportsJudgementsBy old.stream old bytes replies judgements ended new

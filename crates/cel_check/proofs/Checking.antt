@@ -17,7 +17,8 @@ use Rattle.cel_types.specs.Names.{bound, joined_name, root_of, turn_scope, varia
 use Rattle.cel_types.specs.Typing.{ListRule, MapRule, IsOver, Kinds, Maps, NamesFault, Types, TypesAll, TypesEach, TypesPairs, TypesTarget, has_target, locals_in, locals_in_each, locals_in_entries}
 use Rattle.cel_types.specs.TypingFaults.{CallsFault, ElementsFault, NodeTypeFault, ItemTypes, KeyTypes, PairsFault, SelectFault, SomeTypes}
 use Rattle.cel_types.specs.TypingFaults.{unsupported_kind, another_type, in_names, no_elements, no_condition, no_step}
-use Rattle.cel_types.specs.private.Agreeing.{EachAgrees, EntriesAgree, EntryAgrees, NamesDiffer, PairsAgree, TargetAgrees, TypeAgrees}
+use Rattle.cel_types.specs.Agreeing.{EachAgrees, EntriesAgree, EntryAgrees, PairsAgree, TargetAgrees, TypeAgrees}
+use Rattle.cel_types.specs.private.Rules.{NamesDiffer}
 use Rattle.cel_types.specs.View.{expr_view, typed_of}
 use Rattle.cel_types.specs.private.ExprViews.{exprs_view}
 use Rattle.cel_check.specs.Places.{OwnFault, PairFaultAt, SomeFaultAt, TypeFaultAt, id_of}

@@ -12,7 +12,7 @@ use Rattle.cel_types.specs.Names.{joined_name, root_of, turn_scope, variables_of
 use Rattle.cel_types.specs.Typing.{IsOver, Kinds, ListRule, MapRule, Maps, SelectRule, Types, TypesAll, TypesEach, TypesPairs, TypesTarget}
 use Rattle.cel_types.specs.TypingFaults.{ItemTypes, KeyTypes, SomeTypes, ElementsFault, NodeTypeFault, IdentFault, ListFault, MapsFault, PairFault, PairsFault, SelectFault, SomeFault, TargetFault, TypeFault, CallsFault}
 use Rattle.cel_types.specs.TypingFaults.{unsupported_kind, another_type, in_range, in_init, in_turn, in_result}
-use Rattle.cel_types.specs.private.Agreeing.{EachAgrees, EntriesAgree, EntryAgrees, NameAgrees, PairsAgree, SelectAgrees, TargetAgrees}
+use Rattle.cel_types.specs.Agreeing.{EachAgrees, EntriesAgree, EntryAgrees, NameAgrees, PairsAgree, SelectAgrees, TargetAgrees}
 use Rattle.cel_types.proofs.OneType.{OneAtMost, one_type, over_one, select_operand}
 use Rattle.cel_types.proofs.Total.{ref_decided, same_type, type_total, typed_no_root}
 

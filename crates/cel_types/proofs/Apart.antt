@@ -15,7 +15,8 @@ use Rattle.cel_types.specs.Names.{joined_name, root_of, turn_scope, variables_of
 use Rattle.cel_types.specs.Typing.{IsList, IsMap, IsOver, Kinds, ListRule, LoopRule, MapRule, Maps, RefAgrees, SelectRule, Types, TypesAll, TypesEach, TypesPairs, TypesTarget, has_target}
 use Rattle.cel_types.specs.TypingFaults.{AreGot, CallsFault, ElementsFault, EmptyFault, NodeTypeFault, IdentFault, ItemTypes, KeyTypes, ListFault, LoopFault, MapsFault, PairFault, PairsFault, SelectFault, SomeFault, SomeTypes, TargetFault, TypeFault}
 use Rattle.cel_types.specs.TypingFaults.{unsupported_kind, another_type, unstated, of_another_kind, in_names, no_elements, no_condition, no_step, in_range, in_init, in_turn, in_result}
-use Rattle.cel_types.specs.private.Agreeing.{CallRule, EachAgrees, EntriesAgree, EntryAgrees, IdentRule, NameAgrees, PairsAgree, SelectAgrees, TargetAgrees, TypeAgrees}
+use Rattle.cel_types.specs.Agreeing.{EachAgrees, EntriesAgree, EntryAgrees, NameAgrees, PairsAgree, SelectAgrees, TargetAgrees, TypeAgrees}
+use Rattle.cel_types.specs.private.Rules.{CallRule, IdentRule}
 use Rattle.cel_types.proofs.OneType.{OneAtMost, given_one, one_each, one_target, one_type, over_one, select_operand}
 
 entry_apart : (entry : Option CelTypeEntry) (Has : ValueType → Type 0) (t : ValueType)

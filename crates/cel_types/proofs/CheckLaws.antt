@@ -8,7 +8,7 @@ use Rattle.cel_value.specs.Types.{ValueType}
 use Rattle.cel_tree.specs.Checked.{CelChecked}
 use Rattle.cel_types.specs.Typing.{locals_in, maps_of}
 use Rattle.cel_types.specs.TypingFaults.{CheckFault, IsTyped, too_many_locals, untyped}
-use Rattle.cel_types.specs.private.Agreeing.{IsAgreeing}
+use Rattle.cel_types.specs.Agreeing.{IsAgreeing}
 use Rattle.cel_types.proofs.Apart.{typed_apart}
 use Rattle.cel_types.proofs.Agreeing.{entries_kept, typed_total}
 

@@ -9,7 +9,7 @@ use Rattle.cel_tree.specs.Tree.{CelTree, constant, ident, select, call, list_lit
 use Rattle.cel_overload.proofs.OneOverload.{call_unique}
 use Rattle.cel_types.specs.Names.{root_of, turn_scope}
 use Rattle.cel_types.specs.Typing.{IsOver, Kinds, ListRule, LoopRule, MapRule, Maps, SelectRule, Types, TypesAll, TypesEach, TypesPairs, TypesTarget, has_target}
-use Rattle.cel_types.specs.private.Agreeing.{CallRule}
+use Rattle.cel_types.specs.private.Rules.{CallRule}
 use Rattle.cel_types.specs.declared.typed.Variables.{Variables}
 use Rattle.cel_types.specs.declared.typed.Variables.TheVariants as variables
 

@@ -23,7 +23,7 @@ use Rattle.cel_types.specs.Names.{bare_root, is_root, joined_name, local, root_o
 use Rattle.cel_types.specs.Typing.{IsList, IsMap, IsOver, Kinds, ListRule, LoopRule, MapRule, Maps, NamesFault, RefAgrees, SelectRule, Types, TypesAll, TypesEach, TypesPairs, TypesTarget, constant_type, has_target, name_type}
 use Rattle.cel_types.specs.TypingFaults.{CallsFault, ElementsFault, EmptyFault, NodeTypeFault, IdentFault, ItemTypes, KeyTypes, ListFault, LoopFault, MapsFault, PairFault, PairsFault, SelectFault, SomeFault, SomeTypes, TargetFault, TypeFault}
 use Rattle.cel_types.specs.TypingFaults.{unsupported_kind, unstated, of_another_kind, in_names, no_elements, no_condition, no_step, in_range, in_init, in_turn, in_result}
-use Rattle.cel_types.specs.private.Agreeing.{CallRule, IdentRule, NamesDiffer, RefDiffers, UnsupportedConstant}
+use Rattle.cel_types.specs.private.Rules.{CallRule, IdentRule, NamesDiffer, RefDiffers, UnsupportedConstant}
 use Rattle.cel_types.specs.declared.typed.Variables.{Variables}
 use Rattle.cel_types.specs.declared.typed.Variables.TheVariants as variables
 

@@ -21,7 +21,8 @@ use Rattle.cel_overload.proofs.OneOverload.{unchosen}
 use Rattle.cel_overload.specs.Overloads.{IsCall}
 use Rattle.cel_types.specs.Typing.{Kinds, Maps, RefAgrees, Types, TypesEach, locals_in}
 use Rattle.cel_types.specs.TypingFaults.{CallsFault, CheckFault, IsTyped, too_many_locals, ElementsFault, IdentFault, PairsFault, SelectFault, TypeFault, another_type, of_another_kind, unsupported_kind, unstated, no_elements, in_names, in_init, in_range, in_result, in_turn, no_condition}
-use Rattle.cel_types.specs.private.Agreeing.{EntriesAgree, EntryAgrees, NamesDiffer}
+use Rattle.cel_types.specs.Agreeing.{EntriesAgree, EntryAgrees}
+use Rattle.cel_types.specs.private.Rules.{NamesDiffer}
 use Rattle.cel_types.proofs.CheckLaws.{agreeing_typed}
 use Rattle.cel_types.proofs.Total.{names_faultless}
 use Rattle.cel_types.specs.Elaborated.{Elaborates, no_typed, typed, typed_attribute, typed_call, typed_constant, typed_list, typed_local, typed_loop}

@@ -4,6 +4,7 @@ pub mod Meaning
 pub mod OneVariable
 pub mod Typing
 pub mod TypingFaults
+pub mod Agreeing
 pub mod Elaborated
 pub mod TypedMeaning
 pub mod WellTyped

@@ -1,7 +1,7 @@
 -- The faults of a checked expression, each with its refusal: rule by rule as in Typing, and entry by
 -- entry. An expression may have several faults. If a fault compares types, the parts have these types
 -- by their rules; their entries do not matter. The parts of a comprehension that see its locals have
--- faults only where these locals have types.
+-- faults only where these locals have types. An expression without a fault that has a type by the rules is typed.
 use Rattle.std.specs.Prelude.{◌≡◌, ◌≢◌, ◌⊎◌, ◌<◌, ℕ, Bool, true, false, List, [], ◌∷◌, Option, Some, None, option_map}
 use Rattle.std.specs.FinMap.{get}
 use Rattle.proto_wire.specs.declared.refusal.Refusal.{Refusal}
@@ -96,7 +96,7 @@ module _ (x y acc : List ℕ) (Range Init : ValueType → Type 0)
     (Condition Step : List ValueType → ValueType → ValueType → Type 0)
     (InRange InInit : Refusal → Type 0) (InTurn : List ValueType → ValueType → Refusal → Type 0)
     (InResult : ValueType → Refusal → Type 0) (e : Refusal) where
-  -- a fault of a comprehension: of its names or of a part, or its range has no elements. Or the condition is not a
+  -- a fault of a comprehension: of its names or of a part, or its range is no list and no map. Or the condition is not a
   -- bool, or the step is not of the accumulator's type
   pub data LoopFault : Type 0 where
     in_names : NamesFault x y acc e → LoopFault
@@ -192,7 +192,7 @@ abbrev mutual
   PairFault m ks (tree_entry id key value es) e =
       TypeFault m ks key e ⊎ (TypeFault m ks value e ⊎ PairFault m ks es e)
 
--- a fault of a checked expression: a node has too many locals in scope, or the expression has no type
+-- a fault of a checked expression: a node has too many locals in scope, or a node or its entry has a fault
 pub data CheckFault (c : CelChecked) (e : Refusal) : Type 0 where
   too_many_locals : most_locals < locals_in c.tree → e ≡ TooLarge → CheckFault c e
   untyped : TypeFault (maps_of c) [] c.tree e → CheckFault c e

@@ -1,3 +1,3 @@
 -- Definitions that only clauses of private functions and proofs use.
 pub mod ExprViews
-pub mod Agreeing
+pub mod Rules

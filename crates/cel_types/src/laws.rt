@@ -5,6 +5,7 @@ ghost use Rattle.std.specs.Option.{option_and_then};
 ghost use Rattle.attributes.specs.Attributes.{attr_name};
 ghost use Rattle.attributes.specs.Request.{IsRequest, RequestValue};
 ghost use Rattle.attributes.specs.declared.attribute.AttrId.{AttrId};
+ghost use Rattle.cel_types.specs.Agreeing.{IsAgreeing};
 ghost use Rattle.cel_types.specs.Attributes.{attribute_named};
 ghost use Rattle.cel_value.specs.Types.{AnswerHasType, ValueType};
 ghost use Rattle.cel_value.specs.Values.{CelAnswer, value};
@@ -47,6 +48,12 @@ pub fn typing_total()
 /// A checked expression never has both a type and a fault.
 pub fn typing_disjoint()
     ensures { (c : CelChecked) (t : ValueType) (e : Refusal) → IsTyped c t → CheckFault c e → ⊥ }
+{}
+
+/// A checked expression is typed exactly if it has a type by the rules, its entries agree, and no node has too many locals
+/// in scope.
+pub fn typed_is_agreeing()
+    ensures { (c : CelChecked) (t : ValueType) → IsTyped c t ↔ IsAgreeing c t }
 {}
 
 /// A checked expression that has a type has an elaboration of that type.

@@ -30,7 +30,7 @@ use Rattle.cel_overload.specs.declared.overload.Overload.TheVariants as overload
 use Rattle.cel_types.specs.Elaborated.{IsElaborated, TypedTree, no_typed, typed, typed_call, typed_constant}
 use Rattle.cel_types.specs.Meaning.{eval}
 use Rattle.cel_types.specs.Typing.{Types, locals_in, maps_of}
-use Rattle.cel_types.specs.private.Agreeing.{TypeAgrees}
+use Rattle.cel_types.specs.Agreeing.{TypeAgrees}
 use Rattle.cel_types.proofs.CheckLaws.{agreeing_typed}
 use Rattle.rbac_match.specs.Formula.{any, end, formula}
 use Rattle.rbac_match.specs.declared.rule.Side.TheVariants.{Permission, Principal}

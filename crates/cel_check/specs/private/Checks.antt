@@ -14,7 +14,7 @@ use Rattle.cel_types.specs.Elaborated.{Elaborates, ElaboratesEach, TypedTree, Ty
 use Rattle.cel_types.specs.Names.{root_of, turn_scope, variables_of}
 use Rattle.cel_types.specs.Typing.{IsOver, Kinds, Maps, RefAgrees, Types}
 use Rattle.cel_types.specs.TypingFaults.{AreGot}
-use Rattle.cel_types.specs.private.Agreeing.{EachAgrees, EntriesAgree, PairsAgree, SelectAgrees, TargetAgrees}
+use Rattle.cel_types.specs.Agreeing.{EachAgrees, EntriesAgree, PairsAgree, SelectAgrees, TargetAgrees}
 use Rattle.cel_check.specs.Places.{OwnFault, TypeFaultAt, TargetFaultAt, SomeFaultAt, PairFaultAt}
 use Rattle.cel_types.specs.View.{typed_of}
 use Rattle.cel_check.specs.private.Kinds.{NoElements}

@@ -8,7 +8,8 @@ ghost use Rattle.cel_value.specs.Texts.{points_of};
 ghost use Rattle.cel_value.specs.Types.{type_view};
 ghost use Rattle.cel_types.specs.Typing.{RefAgrees};
 ghost use Rattle.cel_types.specs.TypingFaults.{NodeTypeFault};
-ghost use Rattle.cel_types.specs.private.Agreeing.{RefDiffers, TypeAgrees};
+ghost use Rattle.cel_types.specs.Agreeing.{TypeAgrees};
+ghost use Rattle.cel_types.specs.private.Rules.{RefDiffers};
 ghost use Rattle.cel_check.specs.private.Kinds.{NotGiven};
 ghost use Rattle.proto_wire.specs.declared.refusal.Refusal.TheVariants.{BadReference};
 

@@ -5,7 +5,7 @@ ghost use Rattle.cel_value.specs.Texts.{text_view};
 ghost use Rattle.cel_types.specs.Elaborated.{kind, typed_loop};
 ghost use Rattle.cel_types.specs.Names.{variables_of};
 ghost use Rattle.cel_types.specs.Typing.{NamesFault};
-ghost use Rattle.cel_types.specs.private.Agreeing.{NamesDiffer};
+ghost use Rattle.cel_types.specs.private.Rules.{NamesDiffer};
 ghost use Rattle.cel_types.specs.View.{expr_view, loop_of};
 ghost use Rattle.cel_types.specs.private.ExprViews.{parts_view};
 ghost use Rattle.proto_wire.specs.Refusal.{MemoryOr};

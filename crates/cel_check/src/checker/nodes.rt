@@ -8,7 +8,7 @@ ghost use Rattle.cel_value.specs.Texts.{text_view};
 ghost use Rattle.cel_value.specs.Types.{type_view};
 ghost use Rattle.cel_types.specs.Elaborated.{ElaboratesPairs, kind};
 ghost use Rattle.cel_types.specs.Typing.{locals_in, locals_in_each, locals_in_entries, locals_in_target, maps_of, most_locals};
-ghost use Rattle.cel_types.specs.private.Agreeing.{PairsAgree};
+ghost use Rattle.cel_types.specs.Agreeing.{PairsAgree};
 ghost use Rattle.cel_types.specs.View.{expr_view};
 ghost use Rattle.cel_types.specs.private.ExprViews.{exprs_view};
 ghost use Rattle.cel_tree.specs.Places.{PlacedOr};

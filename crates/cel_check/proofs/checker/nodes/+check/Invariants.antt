@@ -3,7 +3,7 @@ use Rattle.cel_tree.specs.View.{checked_view}
 use Rattle.cel_tree.specs.private.TreeViews.{tree_entries_view, trees_view}
 use Rattle.cel_types.specs.Elaborated.{ElaboratesPairs}
 use Rattle.cel_types.specs.Typing.{maps_of}
-use Rattle.cel_types.specs.private.Agreeing.{PairsAgree}
+use Rattle.cel_types.specs.Agreeing.{PairsAgree}
 use Rattle.cel_types.specs.View.{expr_view}
 use Rattle.cel_types.specs.private.ExprViews.{exprs_view}
 use Rattle.cel_check.specs.private.Checks.{AreFound}

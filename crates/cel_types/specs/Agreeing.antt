@@ -1,42 +1,12 @@
--- When the entries of an expression agree: what "no fault of an entry" is for an expression with a type. Rules and
--- faults that proofs name.
-use Rattle.std.specs.Prelude.{◌≡◌, ◌≢◌, ◌≤◌, ℕ, Bool, List, [], ◌∷◌, Option, Some, None}
+-- When the entries of an expression agree with its types: `google/api/expr/v1alpha1/checked.proto`, CheckedExpr. The law
+-- `typed_is_agreeing` says that this is what it means to have a type by the rules, and no fault.
+use Rattle.std.specs.Prelude.{◌≡◌, ◌≤◌, ℕ, List, [], ◌∷◌, Option, Some, None}
 use Rattle.std.specs.FinMap.{get}
-use Rattle.proto_wire.specs.declared.refusal.Refusal.{Refusal}
-use Rattle.proto_wire.specs.declared.refusal.Refusal.TheVariants.{Unsupported}
 use Rattle.cel_value.specs.Types.{ValueType}
-use Rattle.cel_value.specs.Values.{CelValue}
 use Rattle.cel_tree.specs.Checked.{CelChecked, CelReference, CelTypeEntry, of_type, dyn_type, unsupported_type}
 use Rattle.cel_tree.specs.Tree.{CelTree, constant, ident, select, call, list_literal, map_literal, comprehension, CelTarget, no_target, target, CelTrees, no_trees, tree, CelTreeEntries, no_tree_entries, tree_entry}
-use Rattle.cel_overload.specs.Overloads.{IsCall}
-use Rattle.cel_overload.specs.declared.overload.Overload.{Overload}
-use Rattle.cel_types.specs.Names.{joined_name, local, root_of, turn_scope, variables_of}
-use Rattle.cel_types.specs.Typing.{IsOver, Kinds, Maps, RefAgrees, Types, constant_type, locals_in, maps_of, most_locals, name_type}
-
--- ---- rules
-
--- the constant is of an unsupported kind
-abbrev pub UnsupportedConstant : CelValue → Refusal → Type 0
-UnsupportedConstant v e = (constant_type v ≡ None) × (e ≡ Unsupported)
-
--- the type of an Ident is that of its name
-abbrev pub IdentRule : Kinds → List ℕ → ValueType → Type 0
-IdentRule ks name t = name_type name (local name ks) ≡ Some t
-
--- the type of a call is the result's type of an overload that takes the operands, the target first
-abbrev pub CallRule : List ℕ → Bool → (Operands : List ValueType → Type 0) → ValueType → Type 0
-CallRule name on Operands t =
-    (ts : List ValueType) × Operands ts × (o : Overload) × IsCall name on ts o t
-
--- the names of a comprehension differ; the first variable's and the accumulator's are not empty
-pub record NamesDiffer (x y acc : List ℕ) : Type 0 where
-  pub element : x ≢ []
-  pub gathered : acc ≢ []
-  pub differ : x ≢ acc
-  pub second : x ≢ y
-  pub apart : y ≢ acc
-
--- ---- entries
+use Rattle.cel_types.specs.Names.{joined_name, root_of, turn_scope, variables_of}
+use Rattle.cel_types.specs.Typing.{IsOver, Kinds, Maps, RefAgrees, Types, locals_in, maps_of, most_locals}
 
 -- the type entry is absent, is `dyn`, or gives the type
 abbrev pub TypeAgrees : Option CelTypeEntry → ValueType → Type 0
@@ -44,10 +14,6 @@ TypeAgrees None t = Unit {0}
 TypeAgrees (Some dyn_type) t = Unit {0}
 TypeAgrees (Some unsupported_type) t = ⊥
 TypeAgrees (Some (of_type s)) t = s ≡ t
-
--- the reference entry names another variable, or holds a value
-abbrev pub RefDiffers : Option CelReference → List ℕ → Type 0
-RefDiffers ref name = RefAgrees ref name → ⊥
 
 -- the type entry agrees with each type that the node has
 abbrev pub EntryAgrees : Option CelTypeEntry → (Has : ValueType → Type 0) → Type 0
