@@ -26,6 +26,46 @@ use cel_value::CelType;
 use std::alloc::{AllocError, Global};
 use std::rc::Rc;
 
+// One step, without a length.
+const PLAIN: Rule = Rule {
+    charge: 1,
+    first: 0,
+    second: 0,
+    gives: Gives::Nothing,
+};
+
+// The two steps of `&&` and `||`, without a length.
+const JUMPS: Rule = Rule {
+    charge: 2,
+    first: 0,
+    second: 0,
+    gives: Gives::Nothing,
+};
+
+// Two texts that are joined: each byte is a step.
+const JOINED: Rule = Rule {
+    charge: 1,
+    first: 1,
+    second: 1,
+    gives: Gives::Sum,
+};
+
+// Bytes that are copied: each is a step.
+const COPIED: Rule = Rule {
+    charge: 1,
+    first: 1,
+    second: 1,
+    gives: Gives::First,
+};
+
+// A number that is written as a text of at most 20 bytes.
+const WRITTEN: Rule = Rule {
+    charge: 21,
+    first: 0,
+    second: 0,
+    gives: Gives::Sum,
+};
+
 /// The form of a call, by the memos of its operands.
 pub(crate) fn call_form(
     alloc: Global,
@@ -102,19 +142,13 @@ fn single_form(
         → Forms f (typed_call t (Operate op) (typed (expr_view operand.now) no_typed)) l)) }
 {
     let none = fixed_form(alloc, 0)?;
-    let plain = Rule {
-        charge: 1,
-        first: 0,
-        second: 0,
-        gives: Gives::Nothing,
-    };
     match op {
-        Operation::Not => flat_form(alloc, form, &none, plain),
-        Operation::NotStrictlyFalse => flat_form(alloc, form, &none, plain),
-        Operation::Negate => flat_form(alloc, form, &none, plain),
+        Operation::Not => flat_form(alloc, form, &none, PLAIN),
+        Operation::NotStrictlyFalse => flat_form(alloc, form, &none, PLAIN),
+        Operation::Negate => flat_form(alloc, form, &none, PLAIN),
         Operation::Size => {
             if !is_counted(operand) {
-                return flat_form(alloc, form, &none, plain);
+                return flat_form(alloc, form, &none, PLAIN);
             }
             if form.shape.is_text() {
                 let rule = Rule {
@@ -176,48 +210,30 @@ fn converted_form(alloc: Global, kind: Conversion, form: &Form) -> Result<Option
 {
     let none = fixed_form(alloc, 0)?;
     let digits = fixed_form(alloc, 20)?;
-    let written = Rule {
-        charge: 21,
-        first: 0,
-        second: 0,
-        gives: Gives::Sum,
-    };
-    let copied = Rule {
-        charge: 1,
-        first: 1,
-        second: 1,
-        gives: Gives::First,
-    };
-    let plain = Rule {
-        charge: 1,
-        first: 0,
-        second: 0,
-        gives: Gives::Nothing,
-    };
     match kind {
-        Conversion::UintToInt => flat_form(alloc, form, &none, plain),
-        Conversion::IntToUint => flat_form(alloc, form, &none, plain),
+        Conversion::UintToInt => flat_form(alloc, form, &none, PLAIN),
+        Conversion::IntToUint => flat_form(alloc, form, &none, PLAIN),
         Conversion::IntToText => {
             if form.shape.is_flat() {
-                return text_form(alloc, form, &digits, written);
+                return text_form(alloc, form, &digits, WRITTEN);
             }
             Ok(None)
         }
         Conversion::UintToText => {
             if form.shape.is_flat() {
-                return text_form(alloc, form, &digits, written);
+                return text_form(alloc, form, &digits, WRITTEN);
             }
             Ok(None)
         }
         Conversion::BytesToText => {
             if form.shape.is_text() {
-                return text_form(alloc, form, &none, copied);
+                return text_form(alloc, form, &none, COPIED);
             }
             Ok(None)
         }
         Conversion::TextToBytes => {
             if form.shape.is_text() {
-                return text_form(alloc, form, &none, copied);
+                return text_form(alloc, form, &none, COPIED);
             }
             Ok(None)
         }
@@ -235,33 +251,15 @@ fn pair_form(
         → Forms first.now x l → Forms second.now y l
         → Forms f (typed_call t (Operate op) (typed x (typed y no_typed))) l)) }
 {
-    let plain = Rule {
-        charge: 1,
-        first: 0,
-        second: 0,
-        gives: Gives::Nothing,
-    };
-    let jumps = Rule {
-        charge: 2,
-        first: 0,
-        second: 0,
-        gives: Gives::Nothing,
-    };
-    let joined = Rule {
-        charge: 1,
-        first: 1,
-        second: 1,
-        gives: Gives::Sum,
-    };
     match op {
-        Operation::And => flat_form(alloc, first, second, jumps),
-        Operation::Or => flat_form(alloc, first, second, jumps),
-        Operation::Arithmetic(_) => flat_form(alloc, first, second, plain),
+        Operation::And => flat_form(alloc, first, second, JUMPS),
+        Operation::Or => flat_form(alloc, first, second, JUMPS),
+        Operation::Arithmetic(_) => flat_form(alloc, first, second, PLAIN),
         Operation::Compare(_) => masses_form(alloc, first, second),
         Operation::TestText(_) => masses_form(alloc, first, second),
         Operation::Concat => {
             if first.shape.is_text() && second.shape.is_text() {
-                return text_form(alloc, first, second, joined);
+                return text_form(alloc, first, second, JOINED);
             }
             joined_form(alloc, first, second)
         }

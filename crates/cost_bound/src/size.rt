@@ -9,8 +9,7 @@ ghost use Rattle.cost_bound.specs.private.SizeView.{IsWider, size_view};
 use std::alloc::{AllocError, Global};
 use std::rc::Rc;
 
-/// A size: the greatest number of bytes, items or entries, and the sizes of items, or of keys and
-/// values. Its parts are shared.
+/// A size: the greatest number of bytes, items or entries, and the sizes of its parts, which are shared.
 #[derive(Drop)]
 pub(crate) enum ValueSize {
     /// A bool, int or uint.

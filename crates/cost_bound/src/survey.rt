@@ -48,10 +48,8 @@ fn survey(alloc: Global, expr: &TypedExpr<'_>, limits: &Limits) -> Result<Memo, 
             kept_as(alloc, Some(local_form(alloc, cel_type, *outside)?))
         }
         TypedExpr::Attribute { id, .. } => {
-            kept_as(
-                alloc,
-                leaf_form(alloc, &attribute_size(alloc, limits, *id)?)?,
-            )
+            let size = attribute_size(alloc, limits, *id)?;
+            kept_as(alloc, leaf_form(alloc, &size)?)
         }
         TypedExpr::Field { map, .. } => {
             let found = survey(alloc, map, limits)?;

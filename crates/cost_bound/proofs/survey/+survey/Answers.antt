@@ -25,7 +25,7 @@ pub survey-returns-in_ok-leaf_form-in-Attribute : goal.survey-returns-in_ok-leaf
 survey-returns-in_ok-leaf_form-in-Attribute t c =
     let seen = ap expr_view c.in-Attribute.is ∙ view_attribute c.in-Attribute.cel_type c.in-Attribute.id in
     rw seen (c.kept_as-in-Attribute.ensures _ c.args.limits.now (attribute_found _ _ (type_view c.in-Attribute.cel_type) _
-    c.args.limits.now c.in_ok-attribute_size-in-Attribute.ensures c.in_ok-leaf_form-in-Attribute.ensures))
+    c.args.limits.now c.in_ok-size-in-Attribute.ensures c.in_ok-leaf_form-in-Attribute.ensures))
 
 pub survey-returns-in_ok-form-in-Call : goal.survey-returns-in_ok-form-in-Call
 survey-returns-in_ok-form-in-Call t c =
