@@ -3,6 +3,9 @@
 Each has at most 2,048 nodes and 64 levels. The budget bounds what is paid, and not what is looked at: of a conditional's branches only
 the most expensive is paid, and lists of many levels are joined level by level.
 """
+import itertools
+import random
+
 from expressions import (INT, boolean, call, checked, choice, gather, gather_table, ident, integer, items, list_of, pairs, plus, string,
                          type_entry)
 from messages import flag, text
@@ -255,6 +258,49 @@ def made_without_forms():
                         for one, other in two[:120]]))
     yield "14 nested loops of 2 turns, with 200 branches that compare bytes of texts", looped(
         names, choices([is_same(call(b"bytes", one), call(b"bytes", other)) for one, other in two[:200]]))
+
+
+def deep_lists(levels, loops, test_of):
+    """Loops of two turns, one in another, whose lists of many levels grow. In each turn of the innermost, a test of these lists. Two
+    kinds of lists alternate: neither has room for the other."""
+    names = [b"t%d" % level for level in range(loops)]
+    grown = choice(test_of(names), ident(b"y"), ident(b"y"))
+    for level in reversed(range(loops)):
+        kind = ident(b"y" if level % 2 else b"x")
+        grown = gather(ones(2), kind, plus(ident(names[level]), grown), kind, names[level], b"e%d" % level)
+    found = length(grown)
+    for name, entry in ((b"y", (X, string(b"xxxx"))), (b"x", (string(b"xxxx"), X))):
+        one = pairs(entry)
+        for _ in range(levels):
+            one = items(one)
+        found = gather(one, integer(0), found, ident(b"r" + name), b"r" + name, name)
+    return checked(is_short_number(found))
+
+
+def is_short_number(of):
+    return call(b"_<_", of, integer(9))
+
+
+def compared_pairs(names, count):
+    """Branches that compare two lists each."""
+    return choices([is_same(one, other) for one, other in (pairs_of(names) * 4)[:count]])
+
+
+def compared_fours(names, count):
+    """Branches that compare the join of the innermost list and three others, each time of three others."""
+    threes = list(itertools.combinations(names[:-1], 3))
+    random.Random(1).shuffle(threes)
+    return choices([is_same(choices([ident(name) for name in (names[-1], *three)]), ident(b"y")) for three in threes[:count]])
+
+
+def made_against_numbers():
+    """Expressions made against lists of numbers: their names and their bytes."""
+    for loops, levels in ((12, 38), (14, 38)):
+        yield f"{loops} nested loops of 2 turns, with 280 branches that compare lists of {levels} levels", deep_lists(
+            levels, loops, lambda names: compared_pairs(names, 280))
+    for loops, levels in ((12, 38), (13, 36)):
+        yield f"{loops} nested loops of 2 turns, with 100 branches that join four lists of {levels} levels", deep_lists(
+            levels, loops, lambda names: compared_fours(names, 100))
 
 
 def is_short(of):
