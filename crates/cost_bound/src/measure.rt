@@ -27,7 +27,7 @@ use crate::memo::{Memo, part, with_part};
 use crate::remembered::{Budgets, Remembered, budget_at, budget_for, keep_measured};
 use crate::size::{ValueSize, join, same};
 use crate::steady::{Around, has_items, is_steady};
-use crate::survey::kept;
+use crate::survey::{budget_of_look, kept};
 use crate::variables::VariableSizes;
 use cel_overload::Overload;
 use cel_types::{TypedExpr, TypedLoop};
@@ -498,7 +498,7 @@ fn remember(
         around (scope_view at.entry.scope.now)) }
     ensures fault { IfErr result (λ e. e ≡ Memory) }
 {
-    if let Some(known) = kept(memo, left)? {
+    if let Some(known) = kept(memo, budget_of_look(expr, memo, left))? {
         return Ok(Remembered { memo: known, left });
     }
     match expr {

@@ -139,6 +139,19 @@ fn form_or(alloc: Global, found: Option<Form>, parts: Memo) -> Result<Memo, Allo
     }
 }
 
+/// What is left of the budget for a look at an expression. There is none without a loop in it, since nothing else is
+/// remembered.
+pub(crate) fn budget_of_look(expr: &TypedExpr<'_>, memo: Option<&Memo>, left: u64) -> u64 {
+    let is_formed = match memo {
+        Some(known) => form_of(known).is_some(),
+        None => false,
+    };
+    if is_formed || has_loop(expr) {
+        return left;
+    }
+    0
+}
+
 /// The memo of an expression that needs no look at it, if there is one. It is what an outer memo says for all sizes
 /// of the locals. Without a budget all of that is kept, and nothing else is looked for.
 pub(crate) fn kept(memo: Option<&Memo>, left: u64) -> Result<Option<Memo>, AllocError>
