@@ -140,7 +140,7 @@ fn form_or(alloc: Global, found: Option<Form>, parts: Memo) -> Result<Memo, Allo
 }
 
 /// What is left of the budget for a look at an expression. There is none without a loop in it, since nothing else is
-/// remembered.
+/// remembered. One with a form is kept without a look, so it is not searched for loops.
 pub(crate) fn budget_of_look(expr: &TypedExpr<'_>, memo: Option<&Memo>, left: u64) -> u64 {
     let is_formed = match memo {
         Some(known) => form_of(known).is_some(),
