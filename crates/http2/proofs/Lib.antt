@@ -1,0 +1,4 @@
+mod Keeping
+mod Frames
+mod Cutting
+mod Calls

@@ -1,0 +1,9 @@
+use Rattle.std.proofs.Common.{◌≡◌, length}
+use Rattle.http2.specs.Faults.{wrong_entries}
+use Rattle.http2.proofs.check.check_entries.Given as goal
+
+abbrev pub invariant-entries : goal.invariant-entries
+invariant-entries l = wrong_entries l.rest ≡ wrong_entries l.payload
+
+abbrev pub decreases-entries : goal.decreases-entries
+decreases-entries l = length l.rest

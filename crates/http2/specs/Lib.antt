@@ -1,0 +1,9 @@
+pub mod Frame
+pub mod Trail
+pub mod Lines
+pub mod Faults
+pub mod Answer
+pub mod Control
+pub mod Controls
+pub mod Call
+pub mod Tunnels

@@ -1,0 +1,204 @@
+//! What is wrong with a frame by itself (RFC 9113, 6).
+
+ghost use Rattle.std.specs.Prelude.{◌≡◌, ◌≤◌, ◌<◌, ◌+◌, length, IfOk, IfErr};
+ghost use Rattle.http2.specs.Faults.{has_flag, error_of, stripped, wrong_padding, wrong_data, wrong_headers, wrong_priority, wrong_reset, wrong_settings, wrong_entries, wrong_setting, wrong_ping, wrong_goaway, wrong_update, wrong_continuation, fault_of};
+
+use crate::accounts::behind;
+use crate::fault::{Code, Fault};
+use crate::frame::{Frame, word};
+
+/// Whether a flag is set.
+fn has(flags: u8, mask: u8) -> bool
+    requires { 0 < mask }
+    ensures { result ≡ has_flag mask flags }
+{
+    flags / mask % 2 == 1
+}
+
+fn wrong(code: Code) -> Fault
+    ensures { result ≡ Fault.Connection code }
+{
+    Fault::Connection(code)
+}
+
+/// Refuses a frame of a client's peer that has a fault by itself.
+pub(crate) fn check(frame: &Frame) -> Result<(), Fault>
+    ensures { error_of result ≡ fault_of frame.now.bytes.items }
+{
+    let payload = frame.payload();
+    let flags = frame.flags();
+    let on_stream = frame.stream() != 0;
+    match frame.kind() {
+        0 => check_data(flags, on_stream, payload),
+        1 => check_headers(flags, on_stream, payload),
+        2 => check_priority(on_stream, payload),
+        3 => check_reset(on_stream, payload),
+        4 => check_settings(flags, on_stream, payload),
+        5 => Err(wrong(Code::Protocol)),
+        6 => check_ping(on_stream, payload),
+        7 => check_goaway(on_stream, payload),
+        8 => check_update(on_stream, payload),
+        9 => check_continuation(on_stream),
+        _ => Ok(()),
+    }
+}
+
+/// The bytes without their padding.
+fn unpadded(flags: u8, payload: &[u8]) -> Result<&[u8], Fault>
+    ensures wrong { error_of result ≡ wrong_padding flags payload.now }
+    ensures found { IfOk result (λ bytes. bytes.now ≡ stripped flags payload.now) }
+{
+    if !has(flags, 8) {
+        return Ok(payload);
+    }
+    let Some((pad, bytes)) = payload.split_first() else {
+        return Err(wrong(Code::FrameSize));
+    };
+    let pad = *pad as usize;
+    if pad > bytes.len() {
+        return Err(wrong(Code::Protocol));
+    }
+    Ok(&bytes[..bytes.len() - pad])
+}
+
+fn check_data(flags: u8, on_stream: bool, payload: &[u8]) -> Result<(), Fault>
+    ensures { error_of result ≡ wrong_data flags on_stream payload.now }
+{
+    if !on_stream {
+        return Err(wrong(Code::Protocol));
+    }
+    let _data = unpadded(flags, payload)?;
+    Ok(())
+}
+
+fn check_headers(flags: u8, on_stream: bool, payload: &[u8]) -> Result<(), Fault>
+    ensures { error_of result ≡ wrong_headers flags on_stream payload.now }
+{
+    if !on_stream {
+        return Err(wrong(Code::Protocol));
+    }
+    let block = unpadded(flags, payload)?;
+    if has(flags, 32) && block.len() < 5 {
+        return Err(wrong(Code::FrameSize));
+    }
+    Ok(())
+}
+
+fn check_priority(on_stream: bool, payload: &[u8]) -> Result<(), Fault>
+    ensures { error_of result ≡ wrong_priority on_stream payload.now }
+{
+    if !on_stream {
+        return Err(wrong(Code::Protocol));
+    }
+    if payload.len() != 5 {
+        return Err(Fault::Stream(Code::FrameSize));
+    }
+    Ok(())
+}
+
+fn check_reset(on_stream: bool, payload: &[u8]) -> Result<(), Fault>
+    ensures { error_of result ≡ wrong_reset on_stream payload.now }
+{
+    if !on_stream {
+        return Err(wrong(Code::Protocol));
+    }
+    if payload.len() != 4 {
+        return Err(wrong(Code::FrameSize));
+    }
+    Ok(())
+}
+
+fn check_settings(flags: u8, on_stream: bool, payload: &[u8]) -> Result<(), Fault>
+    ensures { error_of result ≡ wrong_settings flags on_stream payload.now }
+{
+    if on_stream {
+        return Err(wrong(Code::Protocol));
+    }
+    if has(flags, 1) {
+        if !payload.is_empty() {
+            return Err(wrong(Code::FrameSize));
+        }
+        return Ok(());
+    }
+    if payload.len() % 6 != 0 {
+        return Err(wrong(Code::FrameSize));
+    }
+    check_entries(payload)
+}
+
+/// The first setting that is wrong.
+fn check_entries(payload: &[u8]) -> Result<(), Fault>
+    ensures { error_of result ≡ wrong_entries payload.now }
+{
+    let mut rest = payload;
+    'entries: while rest.len() >= 6 {
+        check_setting((rest[0] as u32) * 256 + rest[1] as u32, word(rest, 2))?;
+        rest = behind(rest);
+    }
+    Ok(())
+}
+
+/// What a server's setting may be. It may not say that it takes pushes.
+fn check_setting(number: u32, value: u32) -> Result<(), Fault>
+    ensures { error_of result ≡ wrong_setting number value }
+{
+    if number == 2 && value != 0 {
+        return Err(wrong(Code::Protocol));
+    }
+    if number == 4 && value > 2_147_483_647 {
+        return Err(wrong(Code::FlowControl));
+    }
+    if number == 5 && (value < 16_384 || value > 16_777_215) {
+        return Err(wrong(Code::Protocol));
+    }
+    Ok(())
+}
+
+fn check_ping(on_stream: bool, payload: &[u8]) -> Result<(), Fault>
+    ensures { error_of result ≡ wrong_ping on_stream payload.now }
+{
+    if on_stream {
+        return Err(wrong(Code::Protocol));
+    }
+    if payload.len() != 8 {
+        return Err(wrong(Code::FrameSize));
+    }
+    Ok(())
+}
+
+fn check_goaway(on_stream: bool, payload: &[u8]) -> Result<(), Fault>
+    ensures { error_of result ≡ wrong_goaway on_stream payload.now }
+{
+    if on_stream {
+        return Err(wrong(Code::Protocol));
+    }
+    if payload.len() < 8 {
+        return Err(wrong(Code::FrameSize));
+    }
+    Ok(())
+}
+
+fn check_update(on_stream: bool, payload: &[u8]) -> Result<(), Fault>
+    ensures { error_of result ≡ wrong_update on_stream payload.now }
+{
+    if payload.len() != 4 {
+        return Err(wrong(Code::FrameSize));
+    }
+    let more = word(payload, 0) % (1 << 31);
+    if more > 0 {
+        return Ok(());
+    }
+    if on_stream {
+        return Err(Fault::Stream(Code::Protocol));
+    }
+    Err(wrong(Code::Protocol))
+}
+
+fn check_continuation(on_stream: bool) -> Result<(), Fault>
+    ensures { error_of result ≡ wrong_continuation on_stream }
+{
+    if !on_stream {
+        return Err(wrong(Code::Protocol));
+    }
+    Ok(())
+}

@@ -1,0 +1,91 @@
+//! How a client begins, and what it does with each frame.
+
+ghost use Rattle.std.specs.Prelude.{◌≡◌, ◌≤◌, ◌+◌, None, true, [], List, length, OnErr, OnOk, IsTrue};
+ghost use Rattle.std.specs.List.{All};
+ghost use Rattle.hpack.specs.Field.{line_of, IsShort};
+ghost use Rattle.http2.specs.Trail.{Step, Adds, AreQuiet};
+ghost use Rattle.http2.specs.Lines.{line, unread};
+ghost use Rattle.http2.specs.Call.{replies_to, AreReplies};
+ghost use Rattle.http2.specs.Tunnels.{Answers};
+
+use crate::control::Control;
+use crate::end::End;
+use crate::fault::{Code, Fault};
+use crate::frame::{Frame, HEADERS, MOST, PING, SETTINGS, UPDATE};
+use crate::pipe::{Pipe, WINDOW};
+use hpack::{Field, encode};
+use std::alloc::{AllocError, Global};
+
+/// Does what a frame says that was just taken off the unread bytes, and returns why the call is over, if it is.
+pub(crate) fn act(
+    alloc: Global,
+    pipe: &mut Pipe,
+    control: &mut Control,
+    frame: &Frame,
+) -> Option<End>
+    requires alive { control.old.decoder.alive ≡ true }
+    ensures alive { result ≡ None → control.new.decoder.alive ≡ true }
+    ensures rest { pipe.new.rest ≡ pipe.old.rest }
+    ensures waits { length pipe.new.out ≤ length pipe.old.out + 16393 }
+    ensures answers { Answers frame.now.bytes.items pipe.old control.old pipe.new control.new result }
+{
+    match control.after(alloc, frame) {
+        Ok(None) => match reply(alloc, pipe, frame) {
+            Ok(()) => None,
+            Err(_) => Some(End::Broken(Fault::Memory)),
+        },
+        Ok(Some(end)) => Some(end),
+        Err(_) => Some(End::Broken(Fault::Memory)),
+    }
+}
+
+/// Acknowledges settings and a ping.
+pub(crate) fn reply(alloc: Global, pipe: &mut Pipe, frame: &Frame) -> Result<(), AllocError>
+    ensures waits { length pipe.new.out ≤ length pipe.old.out + 16393 }
+    ensures rest { pipe.new.rest ≡ pipe.old.rest }
+    ensures unread { unread pipe.new ≡ unread pipe.old }
+    ensures replied { OnOk result ((steps : List Step) × Adds steps (line pipe.old) (line pipe.new)
+        × AreReplies steps (replies_to frame.now.bytes.items)) }
+    ensures fault { OnErr result (Adds [] (line pipe.old) (line pipe.new)) }
+{
+    if frame.is_acknowledgement() {
+        return Ok(());
+    }
+    match frame.kind() {
+        SETTINGS => pipe.control(alloc, SETTINGS, 1, 0, &[]),
+        PING => pipe.control(alloc, PING, 1, 0, frame.payload()),
+        _ => Ok(()),
+    }
+}
+
+/// Writes what a client says first: settings, the connection's window, and the call's fields.
+pub(crate) fn begin(alloc: Global, pipe: &mut Pipe, fields: &[Field]) -> Result<(), Fault>
+    ensures waits { length pipe.new.out ≤ length pipe.old.out + 16427 }
+    ensures law { OnOk result ((steps : List Step) × AreQuiet steps × Adds steps (line pipe.old) (line pipe.new)) }
+{
+    let [a, b, c, d] = (WINDOW as u32).to_be_bytes();
+    pipe.control(alloc, SETTINGS, 0, 0, &[0, 2, 0, 0, 0, 0, 0, 4, a, b, c, d])?;
+    let more = (WINDOW as u32 - 65_535).to_be_bytes();
+    pipe.control(alloc, UPDATE, 0, 0, &more)?;
+    if !are_short(fields) {
+        return Err(Fault::Stream(Code::Internal));
+    }
+    let block = encode(alloc, fields)?;
+    if block.len() > MOST {
+        return Err(Fault::Stream(Code::Internal));
+    }
+    pipe.control(alloc, HEADERS, 4, 1, &block)?;
+    Ok(())
+}
+
+/// Whether the encoder can write the fields.
+fn are_short(fields: &[Field]) -> bool
+    ensures { IsTrue result → All (λ f. IsShort (line_of f)) fields.now }
+{
+    for field in fields {
+        if !field.is_short() {
+            return false;
+        }
+    }
+    true
+}

@@ -1,0 +1,295 @@
+//! The pipe of a client with one call: all bytes go through it, so that its law holds whatever the code above does.
+
+ghost use Rattle.std.specs.Prelude.{◌≡◌, ◌≤◌, ◌<◌, ◌+◌, ◌-◌, ◌^◌, ◌↔◌, IsTrue, length};
+
+use crate::accounts::{after, data, flow, raise};
+use crate::cut::first_frame;
+use crate::fault::{Code, Fault};
+use crate::frame::{DATA, Frame, HEAD, MOST, UPDATE};
+use crate::queue::Queue;
+use crate::written::written;
+use std::alloc::{AllocError, Global};
+
+/// The window that is announced: one message of the update stream and its head.
+pub const WINDOW: usize = 1_048_581;
+
+/// What a client says first.
+const PREFACE: &[u8; 24] = b"PRI * HTTP/2.0\r\n\r\nSM\r\n\r\n";
+
+/// The pipe of a client with one call, which is on stream 1.
+#[derive(Debug, Drop)]
+pub struct Pipe {
+    // bytes of the peer that were not looked at
+    rest: Queue,
+    // data for the core
+    data_in: Queue,
+    // bytes for the peer
+    out: Queue,
+    // the peer's initial window of a stream
+    window: u32,
+    // what it added to the stream's window, and to the connection's
+    stream: u64,
+    connection: u64,
+    // how much of them was used
+    used: u64,
+    // how much the peer may send, and how much may be given back to it
+    credit: usize,
+    owed: usize,
+    ghost bounded: { length data_in + owed + credit ≡ 1048581 },
+    ghost short: { length rest ≤ 16393 },
+    ghost stream_sum: { stream < 2 ^ 63 },
+    ghost connection_sum: { connection < 2 ^ 63 },
+}
+
+impl Pipe {
+    ghost use Rattle.std.specs.Prelude.{◌≢◌, ◌⊎◌, min, Ok, None, Some, ◌++◌, ◌∷◌, ℕ, List, [], take, IfOk, IfErr, OnErr, OnOk};
+    ghost use Rattle.http2.specs.Frame.{IsFrame, IsPart, data_of, flow_of};
+    ghost use Rattle.http2.specs.Trail.{Step, got, put, Law, Adds, Hears, Sends, Hands, Gives, AreQuiet, allowed};
+    ghost use Rattle.http2.specs.Lines.{line, unread};
+    ghost use Rattle.http2.specs.Call.{parts_of, IsBeyond, StopsAt};
+    ghost use Rattle.http2.specs.declared.fault.Code.{Code};
+    ghost use Rattle.http2.specs.declared.fault.Fault.TheVariants.{Memory, Connection};
+    ghost use Rattle.http2.specs.declared.frame.Frame.{Frame};
+
+    /// A pipe whose peer was told nothing but the preface.
+    pub fn new(alloc: Global) -> Result<Pipe, AllocError>
+        ensures law { IfOk result (λ p. Law [] [] [] [] [] (line p)) }
+        ensures waits { IfOk result (λ p. length p.out ≡ 24) }
+    {
+        let mut out = Queue::new(alloc);
+        out.push(PREFACE)?;
+        Ok(Pipe {
+            rest: Queue::new(alloc),
+            data_in: Queue::new(alloc),
+            out,
+            window: 65_535,
+            stream: 0,
+            connection: 0,
+            used: 0,
+            credit: WINDOW,
+            owed: 0,
+        })
+    }
+
+    /// Takes bytes of the peer, as many as a frame may have. Returns how many it took.
+    pub fn hear(&mut self, alloc: Global, bytes: &[u8]) -> Result<usize, AllocError>
+        ensures out { self.new.out ≡ self.old.out }
+        ensures count { IfOk result (λ n. n ≡ min (length bytes.now) (16393 - length self.old.rest)) }
+        ensures law { IfOk result (λ n. Hears (take n bytes.now) (line self.old) (line self.new)) }
+        ensures fault { OnErr result (Adds [] (line self.old) (line self.new)) }
+    {
+        let count = bytes.len().min(HEAD + MOST - self.rest.len());
+        self.rest.push(&bytes[..count])?;
+        Ok(count)
+    }
+
+    /// The next whole frame.
+    pub fn next(&mut self, alloc: Global) -> Result<Option<Frame>, Fault>
+        ensures out { self.new.out ≡ self.old.out }
+        ensures frame { (f : Frame) → result ≡ Ok (Some f) → self.old.rest ≡ f.bytes.items ++ self.new.rest }
+        ensures law { (f : Frame) → result ≡ Ok (Some f) → Adds (got f.bytes.items ∷ []) (line self.old) (line self.new) }
+        ensures within { (f : Frame) → result ≡ Ok (Some f) → IsBeyond (unread self.old) f.bytes.items → ⊥ }
+        ensures part { result ≡ Ok None → IsPart self.new.rest × (self.new ≡ self.old) }
+        ensures fault { IfErr result (λ e. StopsAt (unread self.old) e × (unread self.new ≡ unread self.old)
+            × Adds [] (line self.old) (line self.new)) }
+    {
+        let Some(size) = first_frame(self.rest.as_slice())? else {
+            return Ok(None);
+        };
+        let frame = Frame {
+            bytes: Vec::from_slice(alloc, &self.rest.as_slice()[..size])?,
+        };
+        self.account(alloc, &frame)?;
+        Ok(Some(frame))
+    }
+
+    // Takes the first frame off what came.
+    fn account(&mut self, alloc: Global, frame: &Frame) -> Result<(), Fault>
+        requires size { length frame.now.bytes.items ≤ length self.old.rest }
+        requires first { frame.now.bytes.items ≡ take (length frame.now.bytes.items) self.old.rest }
+        ensures out { self.new.out ≡ self.old.out }
+        ensures first { OnOk result (self.old.rest ≡ frame.now.bytes.items ++ self.new.rest) }
+        ensures law { OnOk result (Adds (got frame.now.bytes.items ∷ []) (line self.old) (line self.new)) }
+        ensures within { OnOk result (IsBeyond (unread self.old) frame.now.bytes.items → ⊥) }
+        ensures fault { IfErr result (λ e. ((e ≡ Memory) ⊎ ((e ≡ Connection Code.FlowControl)
+            × IsBeyond (unread self.old) frame.now.bytes.items)) × (self.new ≡ self.old)) }
+    {
+        let count = flow(frame);
+        let window = after(self.window, frame);
+        let Some(stream) = raise(self.stream, 1, frame) else {
+            return Err(Fault::Connection(Code::FlowControl));
+        };
+        let Some(connection) = raise(self.connection, 0, frame) else {
+            return Err(Fault::Connection(Code::FlowControl));
+        };
+        if count > self.credit
+            || is_beyond(window, stream, self.used)
+            || is_beyond(65_535, connection, self.used)
+        {
+            return Err(Fault::Connection(Code::FlowControl));
+        }
+        let data = data(frame);
+        self.data_in.push(data)?;
+        self.rest.skip(frame.bytes.len());
+        self.window = window;
+        self.stream = stream;
+        self.connection = connection;
+        self.credit -= count;
+        self.owed += count - data.len();
+        Ok(())
+    }
+
+    /// The data that wait for the core.
+    pub fn data_in(&self) -> &[u8]
+        ensures { result.now ≡ self.now.data_in }
+    {
+        self.data_in.as_slice()
+    }
+
+    /// The core took the first of the data.
+    pub fn take(&mut self, count: usize)
+        requires { count ≤ length self.old.data_in }
+        ensures out { self.new.out ≡ self.old.out }
+        ensures unread { unread self.new ≡ unread self.old }
+        ensures law { Hands (take count self.old.data_in) (line self.old) (line self.new) }
+    {
+        self.data_in.skip(count);
+        self.owed += count;
+    }
+
+    /// The bytes that wait for the peer.
+    pub fn out(&self) -> &[u8]
+        ensures { result.now ≡ self.now.out }
+    {
+        self.out.as_slice()
+    }
+
+    /// The first of the bytes were sent.
+    pub fn sent(&mut self, count: usize)
+        requires { count ≤ length self.old.out }
+        ensures waits { length self.new.out ≤ length self.old.out }
+        ensures unread { unread self.new ≡ unread self.old }
+        ensures law { Sends (take count self.old.out) (line self.old) (line self.new) }
+    {
+        self.out.skip(count);
+    }
+
+    /// Writes a frame without data.
+    pub fn control(
+        &mut self,
+        alloc: Global,
+        kind: u8,
+        flags: u8,
+        stream: u32,
+        payload: &[u8],
+    ) -> Result<(), AllocError>
+        requires kind { kind ≢ 0 }
+        requires small { length payload.now ≤ 16384 }
+        requires stream { stream < 2147483648 }
+        ensures waits { length self.new.out ≤ length self.old.out + 9 + length payload.now }
+        ensures rest { self.new.rest ≡ self.old.rest }
+        ensures data_in { self.new.data_in ≡ self.old.data_in }
+        ensures credit { self.new.credit ≡ self.old.credit }
+        ensures owed { self.new.owed ≡ self.old.owed }
+        ensures unread { unread self.new ≡ unread self.old }
+        ensures law { OnOk result ((frame : List ℕ)
+            × (parts_of frame ≡ record { kind = kind; flags = flags; stream = stream; payload = payload.now })
+            × Adds (put frame ∷ []) (line self.old) (line self.new)) }
+        ensures fault { OnErr result (Adds [] (line self.old) (line self.new)) }
+    {
+        let frame = written(alloc, kind, flags, stream, payload)?;
+        self.write(alloc, &frame)
+    }
+
+    // Writes a frame that brings no data and does not count.
+    fn write(&mut self, alloc: Global, frame: &Frame) -> Result<(), AllocError>
+        requires empty { data_of frame.now.bytes.items ≡ [] }
+        requires free { flow_of frame.now.bytes.items ≡ 0 }
+        ensures waits { length self.new.out ≤ length self.old.out + length frame.now.bytes.items }
+        ensures rest { self.new.rest ≡ self.old.rest }
+        ensures data_in { self.new.data_in ≡ self.old.data_in }
+        ensures credit { self.new.credit ≡ self.old.credit }
+        ensures owed { self.new.owed ≡ self.old.owed }
+        ensures unread { unread self.new ≡ unread self.old }
+        ensures law { OnOk result (Adds (put frame.now.bytes.items ∷ []) (line self.old) (line self.new)) }
+        ensures fault { OnErr result (Adds [] (line self.old) (line self.new)) }
+    {
+        self.out.push(&frame.bytes)?;
+        Ok(())
+    }
+
+    /// How many bytes the peer's windows allow.
+    pub fn room(&self) -> usize
+        ensures stream { 0 < result → self.now.used + result ≤ self.now.window + self.now.stream }
+        ensures connection { 0 < result → self.now.used + result ≤ 65535 + self.now.connection }
+        ensures fits { 0 < result → self.now.used + result < 2 ^ 64 }
+        ensures exact { result ≡ allowed (line self.now) }
+    {
+        let stream = left(self.window, self.stream, self.used);
+        let connection = left(65_535, self.connection, self.used);
+        stream.min(connection) as usize
+    }
+
+    /// Writes the first of the core's bytes as data, as far as both windows and the greatest frame allow. Returns how
+    /// many.
+    pub fn say(&mut self, alloc: Global, bytes: &[u8]) -> Result<usize, AllocError>
+        ensures waits { length self.new.out ≤ length self.old.out + 16393 }
+        ensures count { IfOk result (λ n. n ≤ length bytes.now) }
+        ensures most { IfOk result (λ n. n ≡ min (min (length bytes.now) 16384) (allowed (line self.old))) }
+        ensures law { IfOk result (λ n. (steps : List Step) × AreQuiet steps
+            × Gives steps (take n bytes.now) (line self.old) (line self.new)) }
+        ensures fault { OnErr result (Adds [] (line self.old) (line self.new)) }
+    {
+        let count = bytes.len().min(MOST).min(self.room());
+        if count == 0 {
+            return Ok(0);
+        }
+        let used = self.used + count as u64;
+        let frame = written(alloc, DATA, 0, 1, &bytes[..count])?;
+        self.out.push(&frame.bytes)?;
+        self.used = used;
+        Ok(count)
+    }
+
+    /// Says that no more data come.
+    pub fn finish(&mut self, alloc: Global) -> Result<(), AllocError>
+        ensures law { (steps : List Step) × AreQuiet steps × Adds steps (line self.old) (line self.new) }
+    {
+        let frame = written(alloc, DATA, 1, 1, &[])?;
+        self.write(alloc, &frame)
+    }
+
+    /// Gives windows back, once at least this much may be given.
+    pub fn give_back(&mut self, alloc: Global, least: usize) -> Result<(), AllocError>
+        ensures waits { length self.new.out ≤ length self.old.out + 26 }
+        ensures rest { self.new.rest ≡ self.old.rest }
+        ensures law { (steps : List Step) × AreQuiet steps × Adds steps (line self.old) (line self.new) }
+    {
+        let owed = self.owed;
+        if owed == 0 || owed < least {
+            return Ok(());
+        }
+        let payload = (owed as u32).to_be_bytes();
+        self.control(alloc, UPDATE, 0, 0, &payload)?;
+        self.control(alloc, UPDATE, 0, 1, &payload)?;
+        self.credit += owed;
+        self.owed = 0;
+        Ok(())
+    }
+}
+
+/// What is left of a window.
+fn left(window: u32, more: u64, used: u64) -> u64
+    requires { more < 2 ^ 63 }
+    ensures { result ≡ window + more - used }
+{
+    (more + window as u64).saturating_sub(used)
+}
+
+/// Whether a window is larger than any may be.
+fn is_beyond(window: u32, more: u64, used: u64) -> bool
+    requires { more < 2 ^ 63 }
+    ensures { IsTrue result ↔ (2 ^ 31 ≤ window + more - used) }
+{
+    left(window, more, used) > 0x7fff_ffff
+}
