@@ -1,0 +1,27 @@
+-- A connection was accepted, or none.
+use Rattle.std.proofs.Common.{ap, ◌∙◌}
+use Rattle.serve_loop.specs.History.{accepted}
+use Rattle.serve_loop.proofs.Histories.{belong_still, belong_took, kept_still, kept_accepted, grows_still, grows_took}
+use Rattle.serve_loop.proofs.parties.Parties.accept.Goals as goal
+
+pub returns-in-Ok-clause-belongs : goal.returns-in-Ok-clause-belongs
+returns-in-Ok-clause-belongs g c = belong_took _ _ _ _ _ _ (accepted c.args.k c.in-Ok.facts) c.requires.closed
+    (ap g.N.Network.wire c.deliver.ensures.network ∙ c.in-Ok.ensures) c.deliver.ensures.took c.deliver.ensures.seen
+
+pub returns-in-Ok-clause-kept : goal.returns-in-Ok-clause-kept
+returns-in-Ok-clause-kept g c = λ is_up is_ending k. rw c.put_place.ensures (kept_accepted _ _ _ is_up is_ending c.args.k c.in-Ok.facts
+    c.requires.within (ap g.N.Network.wire c.deliver.ensures.network ∙ c.in-Ok.ensures) k)
+
+pub returns-in-Err-clause-belongs : goal.returns-in-Err-clause-belongs
+returns-in-Err-clause-belongs g c = belong_still _ _ _ _ _ _ (ap g.N.Network.wire c.failed.ensures.network ∙ c.in-Err.ensures)
+    (ap g.S.Service.turns c.failed.ensures.service) c.failed.ensures.seen
+
+pub returns-in-Err-clause-kept : goal.returns-in-Err-clause-kept
+returns-in-Err-clause-kept g c = λ is_up is_ending k. kept_still _ _ _ is_up is_ending
+    (ap g.N.Network.wire c.failed.ensures.network ∙ c.in-Err.ensures) k
+
+pub returns-in-Ok-clause-grows : goal.returns-in-Ok-clause-grows
+returns-in-Ok-clause-grows g c = grows_took _ _ _ c.deliver.ensures.took
+
+pub returns-in-Err-clause-grows : goal.returns-in-Err-clause-grows
+returns-in-Err-clause-grows g c = grows_still _ _ (ap g.S.Service.turns c.failed.ensures.service)

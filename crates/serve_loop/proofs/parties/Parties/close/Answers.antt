@@ -1,0 +1,16 @@
+-- A connection was closed.
+use Rattle.std.proofs.Common.{ap, ◌∙◌}
+use Rattle.serve_loop.specs.History.{closed}
+use Rattle.serve_loop.proofs.Histories.{belong_took, kept_closed, grows_took}
+use Rattle.serve_loop.proofs.parties.Parties.close.Goals as goal
+
+pub returns-clause-belongs : goal.returns-clause-belongs
+returns-clause-belongs g c = belong_took _ _ _ _ _ _ (closed _) c.requires.open
+    (ap g.N.Network.wire c.deliver.ensures.network ∙ c.close.ensures) c.deliver.ensures.took c.deliver.ensures.seen
+
+pub returns-clause-kept : goal.returns-clause-kept
+returns-clause-kept g c = λ is_up is_ending k. rw c.put_place.ensures (kept_closed _ _ _ is_up is_ending c.args.k
+    c.requires.within (ap g.N.Network.wire c.deliver.ensures.network ∙ c.close.ensures) k)
+
+pub returns-clause-grows : goal.returns-clause-grows
+returns-clause-grows g c = grows_took _ _ _ c.deliver.ensures.took

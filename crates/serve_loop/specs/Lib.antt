@@ -1,0 +1,5 @@
+pub mod History
+pub mod Events
+pub mod Waiting
+pub mod Attempts
+pub mod Law
