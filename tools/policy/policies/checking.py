@@ -1,9 +1,9 @@
 """Checks of files: what the tool finds in each filter and what the engine answers, as one report a filter."""
 import os
 import re
-from typing import List, NamedTuple, Optional, Tuple
+from typing import Iterator, List, NamedTuple, Optional, Tuple
 
-from . import engine, lint, profile
+from . import engine, lint, profile, requirements
 from .bounds import GREATEST_BUDGET, too_costly
 from .conditions_typing import Bound, bounds_of
 from .decode import decode
@@ -17,6 +17,10 @@ from .places import Mistake, Source
 from .placing import engine_place, named_node, node_at, origin, place_in_file
 from .reader import read
 from .reading import Encoded, contents
+
+# When a solver is asked for notes too; of more files than these it is not, unless it always is.
+AUTO, ALWAYS, NEVER = "auto", "always", "never"
+MOST_SOLVED = 20
 
 
 class Report(NamedTuple):
@@ -46,28 +50,49 @@ class Report(NamedTuple):
         return f"{self.file}: {self.name}" if self.name else self.file
 
 
-def check_files(names: List[str], budget: int, asked: Optional[engine.Engine]) -> List[Report]:
+class Wanted(NamedTuple):
+    """What is wanted of a check: the budget, and whether a solver is asked too: always, never, or for a few files."""
+
+    budget: int
+    solver: str = AUTO
+
+
+def check_files(names: List[str], wanted: Wanted, asked: Optional[engine.Engine]) -> List[Report]:
     """The reports on files, in order; raises NoEngine."""
+    files = [(file, is_of_folder) for name in names for file, is_of_folder in _files(name)]
+    is_few = wanted.solver == AUTO and len(files) <= MOST_SOLVED
+    is_solved = (is_few or wanted.solver == ALWAYS) and not requirements.missing_solver()
     found: List[Tuple[Report, Optional[bytes]]] = []
-    for name in names:
-        if os.path.isdir(name):
-            for file in files_in(name):
-                found += _reports_or_mistakes(file, budget, is_of_folder=True)
-        else:
-            found += _reports_or_mistakes(name, budget)
+
+    def read_all() -> Iterator[bytes]:
+        """The bytes of the filters: the engine is asked for the first while others are read."""
+        for file, is_of_folder in files:
+            reports = _reports_or_mistakes(file, wanted.budget, is_solved, is_of_folder)
+            found.extend(reports)
+            yield from (data for _, data in reports if data is not None)
+
     if asked is None:
+        for _ in read_all():
+            pass
         return [report for report, _ in found]
-    answers = iter(asked.admissions([data for _, data in found if data is not None], budget))
+    # a process that decides is not started while threads wait for the engine
+    filters = list(read_all()) if is_solved else read_all()
+    answers = iter(asked.admissions(filters, wanted.budget))
     return [report if data is None else _answered(report, next(answers)) for report, data in found]
 
 
-def _reports_or_mistakes(name: str, budget: int, is_of_folder: bool = False) -> List[Tuple[Report, Optional[bytes]]]:
+def _files(name: str) -> List[Tuple[str, bool]]:
+    """The files that a name is for, each with whether it is one of a folder."""
+    return [(file, True) for file in files_in(name)] if os.path.isdir(name) else [(name, False)]
+
+
+def _reports_or_mistakes(name: str, budget: int, is_solved: bool, is_of_folder: bool) -> List[Tuple[Report, Optional[bytes]]]:
     """The reports on one file; of one that a folder has beside policies, that it is left out."""
     try:
         data = read_file(name)
         if is_of_folder and not is_binary(data) and not may_hold_policy(data):
             return [(Report(name, "", None, [], [], [], is_left_out=True), None)]
-        return _reports(name, data, budget)
+        return _reports(name, data, budget, is_solved)
     except Mistake as mistake:
         return [(Report(name_of(name), "", None, [], [mistake], []), None)]
     except OSError as fault:
@@ -75,10 +100,10 @@ def _reports_or_mistakes(name: str, budget: int, is_of_folder: bool = False) -> 
         return [(Report(name_of(name), "", None, [], [unread], [], is_unread=True), None)]
 
 
-def _reports(name: str, data: bytes, budget: int) -> List[Tuple[Report, Optional[bytes]]]:
+def _reports(name: str, data: bytes, budget: int, is_solved: bool) -> List[Tuple[Report, Optional[bytes]]]:
     if kind_of(data) == BYTES and is_binary(data):
         held = filters_in(bounded(name, data))
-        return [_bytes_report(name_of(name), one, bytes_, budget) for one, bytes_ in held]
+        return [_bytes_report(name_of(name), one, bytes_, budget, is_solved) for one, bytes_ in held]
     source = Source(name_of(name), text_of_policy(name, data))
     held = contents(source, budget)
     reports: List[Tuple[Report, Optional[bytes]]] = []
@@ -88,11 +113,18 @@ def _reports(name: str, data: bytes, budget: int) -> List[Tuple[Report, Optional
         about_file = []
     silencing = Silencing(source)
     for index, one in enumerate(held.filters, 1):
-        notes = silencing.kept(lint.notes(one.message, one.encoding))
-        notes += silencing.unused() if index == len(held.filters) and not held.mistakes else []
+        is_whole = not one.mistakes and not are_refused(one.findings)
+        notes = silencing.kept(_notes(one.message, one.encoding, is_solved and is_whole))
+        notes += silencing.unused(is_solved and is_whole) if index == len(held.filters) and not held.mistakes else []
         reports.append(_report(source, one, about_file + one.findings + notes))
         about_file = []
     return reports
+
+
+def _notes(message: Message, encoding: Optional[Encoding], is_solved: bool) -> List[Finding]:
+    """The notes on a filter, those of the solver too."""
+    found = lint.notes(message, encoding)
+    return found + (lint.solved_notes(message, encoding, found) if is_solved else [])
 
 
 def _report(source: Source, one: Encoded, findings: List[Finding]) -> Tuple[Report, Optional[bytes]]:
@@ -101,7 +133,7 @@ def _report(source: Source, one: Encoded, findings: List[Finding]) -> Tuple[Repo
     return report, None if one.mistakes else one.data
 
 
-def _bytes_report(file: str, name: str, data: bytes, budget: int) -> Tuple[Report, bytes]:
+def _bytes_report(file: str, name: str, data: bytes, budget: int, is_solved: bool) -> Tuple[Report, bytes]:
     """The report on a filter in bytes; a condition's fault has the condition's text."""
     message = read(descriptor(FILTER), data, None)
     found = [
@@ -110,7 +142,8 @@ def _bytes_report(file: str, name: str, data: bytes, budget: int) -> Tuple[Repor
     if any(_is_in_condition(one) for one in found):
         lines = _lines_of_texts(file, data)
         found = [_with_origin(_with_line(one, lines), message) for one in found]
-    found += too_costly(message, budget) + lint.notes(message, None)
+    found += too_costly(message, budget)
+    found += _notes(message, None, is_solved and not are_refused(found))
     return Report(file, name, None, found, [], bounds_of(message), None, message), data
 
 

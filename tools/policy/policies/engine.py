@@ -134,7 +134,7 @@ class Engine:
             raise NoEngine(f"{self.program} answered {answer}: is this rbacd?")
         return Admission(answer)
 
-    def admissions(self, filters: List[bytes], budget: int) -> List[Admission]:
+    def admissions(self, filters: Iterable[bytes], budget: int) -> List[Admission]:
         """What the engine says of several filters, several at a time."""
         return list(in_parallel(lambda data: self.admission(data, budget), filters))
 

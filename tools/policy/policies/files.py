@@ -4,7 +4,7 @@ import binascii
 import os
 import re
 import sys
-from typing import List, Optional
+from typing import Iterator, List, Optional
 
 from .bounds import GREATEST_FILTER
 from .places import Mistake
@@ -12,7 +12,8 @@ from .wrap import HEAD
 
 GREATEST_FILE = 16 * 1024 * 1024
 STANDARD_INPUT = "standard input"
-ENDINGS = (".yaml", ".yml", ".json", ".bin", ".pb")
+TEXT_ENDINGS = (".yaml", ".yml", ".json")
+ENDINGS = (*TEXT_ENDINGS, ".bin", ".pb")
 WORDS = re.compile(rb"\b(?:rules|policies|permissions|principals|AuthorizationPolicy|allow_rules|deny_rules)\b|RBAC|rbac")
 OF_TESTS = re.compile(rb"^(?:tests:|\s*[{,]?\s*\"tests\"\s*:)", re.MULTILINE)
 CONTROLS = re.compile(rb"[\x00-\x08\x0b\x0c\x0e-\x1f\x7f]")
@@ -47,6 +48,15 @@ def read_file(name: str) -> bytes:
     return data
 
 
+def read_record(name: str) -> Iterator[bytes]:
+    """The lines of a record, which may be long; raises OSError."""
+    if name == "-":
+        yield from sys.stdin.buffer
+        return
+    with open(name, "rb") as file:
+        yield from file
+
+
 def real_path_below(path: str, root: str) -> Optional[str]:
     """The real path of a file, all links followed, or None if that is not below a folder."""
     real, top = os.path.realpath(path), os.path.realpath(root)
@@ -60,6 +70,17 @@ def files_in(folder: str) -> List[str]:
         folders[:] = sorted(name for name in folders if not name.startswith("."))
         found += [os.path.join(where, name) for name in sorted(names) if name.endswith(ENDINGS) and name[0] != "."]
     return found
+
+
+def test_files_in(folder: str) -> List[str]:
+    """The files of tests in a folder and in those in it, in order."""
+    return [file for file in files_in(folder) if file.endswith(TEXT_ENDINGS) and OF_TESTS.search(read_file(file))]
+
+
+def text_files_in(folder: str) -> List[str]:
+    """The files of text in a folder and in those in it that hold policies or tests, in order."""
+    texts = [(file, read_file(file)) for file in files_in(folder) if file.endswith(TEXT_ENDINGS)]
+    return [file for file, data in texts if WORDS.search(data) or OF_TESTS.search(data)]
 
 
 def may_hold_policy(data: bytes) -> bool:

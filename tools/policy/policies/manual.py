@@ -2,11 +2,14 @@
 import argparse
 from typing import Dict, List
 
-FILES = {"FILE", "OLD", "NEW", "REQUESTS", "PROGRAM", "DIR"}
+FILES = {"FILE", "OLD", "NEW", "REQUESTS", "RECORD", "PROGRAM", "DIR"}
 EXAMPLES = """policy check service.yaml
 policy encode service.yaml --output service.bin
 policy test service.tests.yaml --junit report.xml
-policy diff old.yaml new.yaml requests.jsonl
+policy judge service.yaml --path /admin --header 'x-user: alice' --fact connection.mtls=true
+policy ask service.yaml --allowed --when 'request.path.startsWith("/admin") && !connection.mtls'
+policy diff old.yaml new.yaml
+policy replay /var/log/rbacd/record.jsonl new.yaml
 policy decode service.bin"""
 
 

@@ -116,20 +116,26 @@ def _difference(test: Test, answer: dict) -> List[str]:
     wanted = test.expect + (f" by {quoted(test.matched)}" if test.matched is not None else "")
     answered = told(answer) + (f" by {quoted(by)}" if "verdict" in answer else "")
     lines = [f"- {wanted}", f"+ {answered}"]
+    data = None if test.subject is None else test.subject.data
+    return lines + [f"    {line}" for line in explained(answer, data)]
+
+
+def explained(answer: dict, data: Optional[bytes]) -> List[str]:
+    """The lines on the policies that were tried, with the leaves that decide, and the causes of a refusal."""
+    lines: List[str] = []
     for trial in answer.get("trials", []):
-        found = [_with_node(line, trial["name"], test.subject) for line in details(trial)]
-        lines += [f"    {quoted(trial['name'])}: {reason(trial)}", *(f"      {line}" for line in found)]
-    causes = [answer[name] for name in ("cause", "place") if answer.get(name)]
-    return lines + [f"    {cause}" for cause in causes]
+        lines.append(f"{quoted(trial['name'])}: {reason(trial)}")
+        lines += [f"  {_with_node(line, trial['name'], data)}" for line in details(trial)]
+    return lines + [answer[name] for name in ("cause", "place") if answer.get(name)]
 
 
-def _with_node(line: str, policy: str, subject: Optional[Subject]) -> str:
-    """A line about a policy; if it names a node of the condition, with that node as text."""
+def _with_node(line: str, policy: str, data: Optional[bytes]) -> str:
+    """A line about a policy of a filter; if it names a node of the condition, with that node as text."""
     found = ERROR_PLACE.match(line)
-    if found is None or subject is None:
+    if found is None or data is None:
         return line
     place = EnginePlace(("rules", "policies", policy, *found["part"].split(".")), int(found["node"]))
-    named = named_node(place, message_of(subject.data))
+    named = named_node(place, message_of(data))
     return line if named is None else f"{line} ({named.told()})"
 
 

@@ -1,33 +1,25 @@
 """The command line."""
 import argparse
 import gc
-import pathlib
 import sys
 from typing import List, Optional
 
 from . import output
-from .commands import check, decode, diff, encode, fmt, generate, join, test, wrap
+from .commands import ask, check, decode, diff, encode, fmt, generate, join, judge, replay, test, wrap
 from .commands.common import UNUSABLE, MISTAKEN, tell_mistake
 from .places import Mistake
+from .version import version
 
-HERE = pathlib.Path(__file__).resolve()
 DEEPEST_RECURSION = 20_000
 INTERRUPTED = 130
-COMMANDS = (check, test, diff, join, fmt, encode, decode, wrap, generate)
+COMMANDS = (check, test, judge, ask, diff, replay, join, fmt, encode, decode, wrap, generate)
 
 DESCRIPTION = """Envoy RBAC policies as YAML, with conditions as texts of CEL, to filter bytes and back.
 This tool is no part of what is proved: the engine reads every filter for itself."""
 STATUSES = """status: 0 done; 1 a mistake in a file, told with its place, a filter that the engine refuses, a test that
-fails, a verdict that changes; 2 a mistake on the command line, a file that cannot be read or written, a package or an
-engine that is missing. Where the status is not 0, no bytes are written."""
-
-
-def version() -> str:
-    """The version of this checkout, or of what was installed."""
-    for folder in HERE.parents[1:4:2]:
-        if (folder / "VERSION").is_file():
-            return (folder / "VERSION").read_text(encoding="utf-8").split("\n")[0]
-    return "of no checkout"
+fails, a verdict that changes, a request that was asked for; 2 a mistake on the command line, a file that cannot be read
+or written, a package or an engine that is missing; 3 a question that was not decided, or a request that `judge` denies;
+4 a head with a fault. Where the status is not 0, no bytes are written."""
 
 
 def parser_of_words() -> argparse.ArgumentParser:

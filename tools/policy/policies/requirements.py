@@ -5,6 +5,8 @@ from typing import List
 
 MODULES = {"google.protobuf": "python3-protobuf", "yaml": "python3-yaml", "lark": "python3-lark"}
 PROGRAMS = {"protoc": "protobuf-compiler"}
+# Without it questions to policies are not decided.
+SOLVER = {"z3": "python3-z3"}
 
 
 def missing() -> List[str]:
@@ -12,6 +14,11 @@ def missing() -> List[str]:
     return [package for module, package in MODULES.items() if not _is_there(module)] + [
         package for program, package in PROGRAMS.items() if shutil.which(program) is None
     ]
+
+
+def missing_solver() -> List[str]:
+    """The package of the solver, if it is missing."""
+    return [package for module, package in SOLVER.items() if not _is_there(module)]
 
 
 def _is_there(module: str) -> bool:

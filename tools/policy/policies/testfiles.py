@@ -2,6 +2,7 @@
 
 A mistake is kept with the tests that it is of: these are not run, and all others are.
 """
+import json
 import os
 import re
 from typing import Dict, List, NamedTuple, Optional, Tuple, Union
@@ -24,13 +25,17 @@ from .files import (
 from .forms.binary import filters_in
 from .forms.envoy import Form, rewritten
 from .forms.nodes import Node, get, items, text_of
+from .messages import FILTER, descriptor
 from .places import Mistake, Source, start_of, together
+from .reader import read
 from .reading import contents, encoded
 from .requests import Reader
 
 FILE_FIELDS = ("policy", "filter", "budget", "facts", "tests")
 TEST_FIELDS = ("name", "policy", "filter", "budget", "request", "facts", "expect", "matched")
 EXPECTATION = re.compile(r"(allow|deny|steps|refused(?: (?:\d+ )?\w+)?|head (?:400|431|501))\Z")
+# What `matched` says if no policy matched.
+NO_POLICY = "none"
 EXPECTATIONS = "allow, deny, steps, refused (or refused 9), or head 400, 431 or 501"
 
 
@@ -57,6 +62,12 @@ class Test(NamedTuple):
     is_unread: bool = False
 
 
+def policy_names(data: bytes) -> Optional[List[str]]:
+    """The names of a filter's policies, or None if its bytes do not read."""
+    rules = read(descriptor(FILTER), data, None).get("rules")
+    return sorted(name for name, _ in rules.get("policies") or []) if rules is not None and rules.is_whole else None
+
+
 class NoPolicy(Mistake):
     """The mistake of a file that is not known to hold a policy; who did not name it himself sees no line of it."""
 
@@ -74,12 +85,13 @@ def read_tests(name: str, root: Optional[str] = None) -> List[Test]:
 
 
 class TestFile:
-    """One file of tests. It reads policies below its own folder, or below `root`."""
+    """One file of tests. It reads policies below `root`, or without one below its own folder or the current one."""
 
     def __init__(self, name: str, root: Optional[str] = None):
         self.folder = os.path.dirname(name) if name != "-" else ""
         self.root = root
         self.source = Source(name_of(name), policy_text(name))
+        self.names: Dict[str, Node] = {}
         self.reader = Reader(self.source)
         self.subjects: Dict[tuple, Union[Subject, Mistake]] = {}
 
@@ -100,7 +112,7 @@ class TestFile:
     def _test(self, node: Node, index: int, around: Dict[str, Node], facts: dict, of_facts: tuple) -> Test:
         before = len(self.reader.mistakes)
         fields = self.reader.known(node, TEST_FIELDS, "a test")
-        name = self.reader.line(fields["name"], "a name") if "name" in fields else f"test {index + 1}"
+        name = self._name(fields["name"]) if "name" in fields else f"test {index + 1}"
         expect = self._expect(fields, node)
         request = None
         if "request" in fields:
@@ -110,6 +122,8 @@ class TestFile:
             self.reader.tell(node, "a test has a `request`, unless it expects the filter to be refused")
         matched = self.reader.line(fields["matched"], "the name of a policy") if "matched" in fields else None
         subject = self._subject({**around, **fields}, node)
+        if isinstance(subject, Subject) and matched is not None:
+            self._check_matched(fields["matched"], matched, subject)
         mistakes = [*of_facts, *self.reader.mistakes[before:]]
         if isinstance(subject, Mistake):
             mistakes += [subject, *subject.rest]
@@ -117,6 +131,22 @@ class TestFile:
         mistakes.sort(key=lambda mistake: mistake.place or (0, 0))
         line = start_of(node)[0] + 1
         return Test(name, self.source.name, line, subject, request, expect, matched, tuple(mistakes))
+
+    def _name(self, node: Node) -> str:
+        """The name of a test, which no other one has."""
+        name = self.reader.line(node, "a name")
+        if name in self.names:
+            line = start_of(self.names[name])[0] + 1
+            self.reader.tell(node, f"the test of line {line} has this name too: give each another one")
+        self.names.setdefault(name, node)
+        return name
+
+    def _check_matched(self, node: Node, matched: str, subject: Subject) -> None:
+        """Tells the name of a policy that the filter does not have."""
+        names = policy_names(subject.data)
+        if names is not None and matched not in (NO_POLICY, *names):
+            known = ", ".join(json.dumps(name, ensure_ascii=False) for name in names) or "none"
+            self.reader.tell(node, f"the filter has no policy of this name: it has {known}; `{NO_POLICY}` is for no policy")
 
     def _expect(self, fields: Dict[str, Node], at: Node) -> str:
         if "expect" not in fields:
@@ -175,8 +205,11 @@ class TestFile:
     def _bytes(self, node: Node, path: str) -> bytes:
         """The bytes of a file that a test names."""
         real = real_path_below(path, self.root or self.folder or ".")
+        if real is None and self.root is None and real_path_below(self.folder or ".", ".") is not None:
+            # the file of tests is below the folder where this runs
+            real = real_path_below(path, ".")
         if real is None:
-            where = f"the folder {self.root}" if self.root else "the folder of this file"
+            where = f"the folder {self.root}" if self.root else "the folder of this file, and of the current one"
             raise self.reader.mistake(node, f"{path} is outside of {where}: --root names another folder")
         if os.path.exists(real) and not os.path.isfile(real):
             raise self.reader.mistake(node, f"{path} is no plain file")
@@ -210,10 +243,10 @@ def filter_in(path: str, data: bytes, chosen: Optional[str] = None) -> bytes:
 def _filters_of_text(path: str, data: bytes) -> List[Tuple[str, bytes]]:
     """The filters of a file of text, each with its name."""
     try:
-        read = contents(Source(name_of(path), text_of_policy(path, data)))
+        held = contents(Source(name_of(path), text_of_policy(path, data)))
     except Mistake as mistake:
         raise NoPolicy(str(mistake), mistake.place, mistake.words) from None
-    if read.mistakes:
-        first = together(read.mistakes)
-        raise first if read.is_policy else NoPolicy(str(first), first.place, first.words)
-    return [(one.name, one.data) for one in read.filters]
+    if held.mistakes:
+        first = together(held.mistakes)
+        raise first if held.is_policy else NoPolicy(str(first), first.place, first.words)
+    return [(one.name, one.data) for one in held.filters]

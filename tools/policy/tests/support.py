@@ -1,4 +1,5 @@
 """What several tests share."""
+import importlib.util
 import os
 import pathlib
 import sys
@@ -14,6 +15,7 @@ TOP = HERE.parent.parent.parent
 # The engine: the program of RBACD, or the proved one where it is built (`bin/rbacd` builds it).
 ENGINE = pathlib.Path(os.environ.get("RBACD") or TOP / "crates" / "rbacd" / "out" / "rbacd")
 NO_ENGINE = f"the engine is not built: {ENGINE} is not there"
+NO_SOLVER = "python3-z3 is not installed"
 sys.setrecursionlimit(20_000)
 POLICY = """rules:
   policies:
@@ -23,6 +25,16 @@ POLICY = """rules:
       principals:
       - any: true
 """
+
+
+def has_solver() -> bool:
+    """Whether questions to policies can be decided."""
+    return importlib.util.find_spec("z3") is not None
+
+
+def times() -> int:
+    """How many times as many random cases are tried as usually."""
+    return int(os.environ.get("TIMES") or 1)
 
 
 def encoded(text: str, dotted: bool = False) -> bytes:

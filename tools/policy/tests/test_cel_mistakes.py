@@ -102,7 +102,7 @@ WRONG = [
     ("a\n== 'x\n'", 2, 4, "not closed"),
     ("a || // b\n", 1, 10, "ends here"),
     ('"""one\ntwo\\q"""', 2, 4, "no escape"),
-    ("", 1, 1, "ends here"),
+    ("", 1, 1, "a condition is expected here"),
     ("// nothing", 1, 11, "ends here"),
     ("!(" * 300 + "a" + ")" * 300, 1, 251, "more than 250 levels"),
 ]

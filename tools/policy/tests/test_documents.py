@@ -76,7 +76,7 @@ class Documents(unittest.TestCase):
         for text in (self.helps["check"], self.helps["judge"]):
             self.assertIn(f"from 1 to {GREATEST_BUDGET} [default: {BUDGET}]", text)
         self.assertIn(f"(default {BUDGET})", " ".join(self.commands["check"].format_help().split()))
-        self.assertEqual([number for number in ("0", "1", "2", "3") if f"{number} " in STATUSES], ["0", "1", "2"])
+        self.assertEqual([number for number in ("0", "1", "2", "3", "4", "5") if f"{number} " in STATUSES], list("01234"))
         for page in PAGES.values():
             for number, name in re.findall(r"\b(\d+) ([A-Z][a-z]+[A-Z]\w+)", page):
                 if name in NAMES.values():

@@ -10,7 +10,7 @@ import cases
 from policies import messages
 from policies.decode import decode
 from random_filters import new
-from support import TOP, encoded
+from support import ENGINE, NO_ENGINE, TOP, encoded
 from yaml_data import as_data
 
 STORED = TOP / "examples"
@@ -69,3 +69,13 @@ class Others(unittest.TestCase):
                     message = new(messages.FILTER)
                     json_format.ParseDict(without_type(text), message)
                     self.assertEqual(message.SerializeToString(deterministic=True), data)
+
+    @unittest.skipUnless(ENGINE.exists(), NO_ENGINE)
+    def test_tests(self):
+        """The example of tests runs as its first line says."""
+        file = TOP / "examples" / "policies" / "condition.tests.yaml"
+        command = file.read_text().split("\n")[0].rpartition(": ")[2].split()
+        self.assertEqual(command[:2], ["tools/policy/policy", "test"])
+        ran = subprocess.run([*command, "--engine", ENGINE], cwd=TOP, capture_output=True, text=True)
+        self.assertEqual((ran.returncode, ran.stderr), (0, ""))
+        self.assertIn("6 passed, 0 failed", ran.stdout)

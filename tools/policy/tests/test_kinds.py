@@ -2,7 +2,7 @@
 import re
 import unittest
 
-from policies.checking import check_files
+from policies.checking import NEVER, Wanted, check_files
 from policies.commands.check import as_text
 from policies.engine import Engine
 from policies.forms.binary import filters_in
@@ -149,7 +149,7 @@ class Kinds(unittest.TestCase):
     def reports(self, name):
         """The reports on a file, and their lines."""
         asked = engine_or_none()
-        reports = check_files([str(KINDS / name)], 1_000_000, asked)
+        reports = check_files([str(KINDS / name)], Wanted(1_000_000, NEVER), asked)
         if asked is not None:
             asked.room.cleanup()
         return reports, [line for report in reports for line in as_text(report, 1_000_000)]

@@ -8,9 +8,8 @@ from policies.lint.names import MEANINGS
 from policies.lint.of_paths import Paths, spellings
 from policies.places import Source
 from policies.reading import contents
-from policies.requests import request_log
+from solved_notes import SOLVED_NOTES
 from support import ENGINE, NO_ENGINE, POLICY, condition, encoded, told
-from test_outputs import Room
 
 # A condition's text, and for each note its column in the text, counted from 1, and words.
 NOTES = [
@@ -126,22 +125,33 @@ RULES = [
     ("ALLOW", "{destination_ip: {address_prefix: '2001:db8::1', prefix_len: 32}}", ["host-bits"]),
     ("ALLOW", "{and_rules: {rules: [{any: true}, {destination_port: 1}]}}", ["needless-rule"]),
     ("ALLOW", "{or_rules: {rules: [{any: true}, {destination_port: 1}]}}", ["needless-rule"]),
-    ("ALLOW", "{any: true}, {destination_port: 1}", ["needless-rule"]),
+    ("ALLOW", "{any: true}, {destination_port: 1}", ["any-any", "needless-rule"]),
     ("ALLOW", "{requested_server_name: {exact: a}}", []),
-    ("ALLOW", "{url_path: {path: {prefix: /admin}}}", []),
+    ("ALLOW", "{url_path: {path: {prefix: /admin}}}", ["open-prefix"]),
+    ("ALLOW", "{url_path: {path: {prefix: /admin/}}}", []),
+    ("ALLOW", "{header: {name: ':path', prefix_match: /admin?x=}}", []),
+    ("ALLOW", "{requested_server_name: {suffix: example.com}}", ["open-suffix"]),
+    ("ALLOW", "{requested_server_name: {suffix: .example.com}}", []),
+    ("ALLOW", "{header: {name: ':authority', suffix_match: example.com}}", ["open-suffix"]),
+    ("ALLOW", "{header: {name: x-a, suffix_match: example.com}}", []),
+    ("DENY", "{requested_server_name: {suffix: example.com}}", []),
+    ("ALLOW", "{header: {name: X-Forwarded-For, exact_match: 10.0.0.1}}", ["client-header"]),
+    ("ALLOW", "{header: {name: x-forwarded-for, exact_match: 10.0.0.1, invert_match: true}}", []),
+    ("DENY", "{header: {name: x-forwarded-for, exact_match: 10.0.0.1}}", []),
+    ("DENY", "{not_rule: {header: {name: x-real-ip, exact_match: 10.0.0.1}}}", ["client-header"]),
     ("ALLOW", "{not_rule: {url_path: {path: {prefix: /admin}}}}", ["other-paths"]),
     ("ALLOW", "{not_rule: {url_path: {path: {prefix: /}}}}", []),
     ("ALLOW", "{header: {name: ':path', prefix_match: /admin, invert_match: true}}", ["other-paths"]),
     ("DENY", "{url_path: {path: {prefix: /admin}}}", ["other-paths"]),
     ("DENY", "{url_path: {path: {prefix: /admin}}}, {url_path: {path: {exact: /b}}}", ["other-paths", "other-paths"]),
-    ("DENY", "{not_rule: {url_path: {path: {prefix: /admin}}}}", []),
+    ("DENY", "{not_rule: {url_path: {path: {prefix: /admin}}}}", ["open-prefix"]),
     ("DENY", "{url_path: {path: {suffix: /admin}}}", []),
     ("DENY", "{url_path: {path: {contains: /admin}}}", []),
     ("DENY", "{url_path: {path: {contains: /a/b}}}", ["other-paths"]),
     ("DENY", "{url_path: {path: {exact: /}}}", ["other-paths"]),
     ("DENY", "{url_path: {path: {prefix: /}}}", []),
     # what denies the other spellings too, or everything
-    ("DENY", "{any: true}, {url_path: {path: {exact: /b}}}", ["needless-rule"]),
+    ("DENY", "{any: true}, {url_path: {path: {exact: /b}}}", ["any-any", "needless-rule"]),
     ("DENY", "{url_path: {path: {exact: /b}}}, {not_rule: {url_path: {path: {exact: /c}}}}", []),
     ("DENY", "{url_path: {path: {exact: /b}}}, {url_path: {path: {contains: //}}}", ["other-paths"]),
     ("DENY", "{url_path: {path: {exact: /b}}}, {url_path: {path: {contains: //}}}, {url_path: {path: {contains: /.}}}", []),
@@ -149,15 +159,25 @@ RULES = [
     ("DENY", "{and_rules: {rules: [{url_path: {path: {exact: /b}}}, {not_rule: {any: true}}]}}", []),
     ("DENY", "{or_rules: {rules: [{url_path: {path: {exact: /b}}}, {header: {name: ':path', prefix_match: /}}]}}", []),
     # a path that is allowed anyway, or never
-    ("ALLOW", "{not_rule: {url_path: {path: {exact: /b}}}}, {header: {name: ':path', prefix_match: /b}}", []),
-    ("ALLOW", "{and_rules: {rules: [{not_rule: {url_path: {path: {exact: /b}}}}, {url_path: {path: {prefix: /b}}}]}}", []),
+    ("ALLOW", "{not_rule: {url_path: {path: {exact: /b}}}}, {header: {name: ':path', prefix_match: /b}}", ["open-prefix"]),
+    ("ALLOW", "{and_rules: {rules: [{not_rule: {url_path: {path: {exact: /b}}}}, {url_path: {path: {prefix: /b}}}]}}", ["open-prefix"]),
     ("ALLOW", "{and_rules: {rules: [{not_rule: {url_path: {path: {exact: /a/b}}}}, {url_path: {path: {prefix: /a/}}}]}}", ["other-paths"]),
     ("ALLOW", "{url_path: {path: {exact: /admin}}}", []),
 ]
 # The action, a condition, and the names of its notes.
 CONDITIONS = [
     ("ALLOW", "!request.path.startsWith('/admin')", ["other-paths"]),
-    ("ALLOW", "request.path.startsWith('/admin')", []),
+    ("ALLOW", "request.path.startsWith('/admin')", ["open-prefix"]),
+    ("ALLOW", "request.path.startsWith('/admin/')", []),
+    ("ALLOW", "connection.uri_san_peer_certificate.startsWith('spiffe://a/ns/b')", ["open-prefix"]),
+    ("ALLOW", "request.method == 'GET' && request.host.endsWith('example.com')", ["open-suffix"]),
+    ("ALLOW", "request.host.endsWith('.example.com')", []),
+    ("ALLOW", "source.address == '10.0.0.1'", ["address-port"]),
+    ("ALLOW", "destination.address in ['10.0.0.1:80', '::1']", ["address-port"]),
+    ("ALLOW", "source.address == '10.0.0.1:80'", []),
+    ("ALLOW", "request.headers['x-real-ip'] == '10.0.0.1'", ["client-header"]),
+    ("ALLOW", "!('x-real-ip' in request.headers)", []),
+    ("DENY", "'x-real-ip' in request.headers && request.headers['x-real-ip'] == '10.0.0.1'", []),
     ("ALLOW", "request.url_path != '/admin' && true", ["other-paths"]),
     ("ALLOW", "!(request.url_path != '/admin')", []),
     ("DENY", "true && (false || request.url_path == '/admin')", ["other-paths"]),
@@ -204,7 +224,7 @@ class Names(unittest.TestCase):
     def test_shadowed(self):
         one = "{permissions: [%s], principals: [%s]%s}"
         for policies, wanted in [
-            ([("{any: true}", "{any: true}", ""), ("{destination_port: 1}", "{any: true}", "")], ["never-first"]),
+            ([("{any: true}", "{any: true}", ""), ("{destination_port: 1}", "{any: true}", "")], ["any-any", "never-first"]),
             ([("{any: true}", "{any: true}", ", condition: {text: 'true'}"), ("{destination_port: 1}", "{any: true}", "")], []),
             ([("{destination_port: 1}, {destination_port: 2}", "{any: true}", ""), ("{destination_port: 2}", "{any: true}", "")], ["never-first"]),
             ([("{destination_port: 1}", "{any: true}", ""), ("{destination_port: 1}, {destination_port: 2}", "{any: true}", "")], []),
@@ -216,6 +236,7 @@ class Names(unittest.TestCase):
 
     def test_each_name_is_tested(self):
         tested = {name for _, _, found in RULES + CONDITIONS for name in found} | {"never-first", "unused-ignore", "upper-case-header"}
+        tested |= {name for _, found in SOLVED_NOTES for name in found}
         self.assertEqual(tested, set(MEANINGS))
 
 
@@ -312,104 +333,3 @@ class PathsByTheEngine(unittest.TestCase):
                         self.assertIn(one, (None, verdict))
                 known += sum(one is not None for one in said)
         self.assertGreater(known, 500)
-
-
-SILENT = """rules:
-  action: DENY
-  policies:
-    a:   # policy: ignore other-paths, missing-in-deny
-      permissions:
-      - url_path: {path: {prefix: /admin}}
-      principals: [{any: true}]
-      checked_condition:
-        text: |-
-          source.port == 80 // # policy: ignore host-bits
-    # policy: ignore host-bits
-    b:
-      permissions:
-      - destination_ip: {address_prefix: 10.0.0.1, prefix_len: 8}
-      # policy: ignore no-prefix-len
-
-      # and a comment
-      - destination_ip: {address_prefix: 10.0.0.1}
-      principals: [{remote_ip: {address_prefix: 10.0.0.1}}]  # policy: ignore no-prefix-len
-    c:
-      permissions: [{any: true}]
-      principals:
-      - remote_ip: {address_prefix: 10.0.0.1}
-      - remote_ip: {address_prefix: 10.0.0.2}  # policy: ignore no-prefix-len,host-bits
-"""
-
-
-class Silenced(Room):
-    """Comments that silence notes."""
-
-    def notes(self, text):
-        """The notes that `check` prints of a file."""
-        status, out, errors = self.run_here("check", "--without-engine", self.file("f.yaml", text))
-        return [line.partition("note: ")[::2] for line in out.decode().splitlines() if " note: " in line]
-
-    def test_comments(self):
-        found = self.notes(SILENT)
-        self.assertEqual([place for place, _ in found], ["f.yaml:23:20: ", "f.yaml:24:48: "])
-        self.assertTrue(found[0][1].endswith("[no-prefix-len]"))
-        self.assertEqual(found[1][1], "there is no note host-bits here to silence [unused-ignore]")
-        found = self.notes(POLICY + "# policy: ignore nothing-like-that\n")
-        self.assertEqual([place for place, _ in found], ["f.yaml:8:1: "])
-        self.assertTrue(found[0][1].startswith("there is no note of the name nothing-like-that: they are no-prefix-len, "))
-
-    def test_texts(self):
-        """A text of YAML is no comment."""
-        text = RULE.replace("%s", "ALLOW", 1) % "{destination_ip: {address_prefix: 10.0.0.1}}"
-        silent = text + "\n# policy: ignore no-prefix-len"
-        self.assertEqual(len(self.notes(silent.replace("\n", " "))), 0)
-        quoted = text.replace("{p:", '{"p # policy: ignore no-prefix-len":')
-        self.assertEqual(len(self.notes(quoted)), 1)
-
-    def test_same(self):
-        """The spellings of paths are noted once for a filter."""
-        rules = ", ".join("{url_path: {path: {exact: /a%d}}}" % number for number in range(5))
-        [(place, words)] = self.notes(RULE % ("DENY", rules))
-        self.assertEqual(place, "f.yaml:1:78: ")
-        self.assertTrue(words.endswith("(4 more of these are in this filter) [other-paths]"), words)
-
-    def test_folders(self):
-        """Files of a folder that hold no policy are left out, and are named."""
-        for name, text in [
-            ("d/a.yaml", POLICY),
-            ("d/b/c.json", '{"rules": {}}'),
-            ("d/b/values.yaml", "replicas: 3\n"),
-            ("d/b/f.tests.yaml", "policy: ../a.yaml\ntests: [{request: {}, expect: allow}]\n"),
-            ("d/wrong.yaml", "rules: {action: 7}\n"),
-            ("d/notes.txt", "rules"),
-            ("d/.git/x.yaml", "rules: ["),
-        ]:
-            (self.room / name).parent.mkdir(parents=True, exist_ok=True)
-            self.file(name, text)
-        self.file("d/f.bin", bytes.fromhex("0a 00"))
-        status, out, errors = self.run_here("check", "--without-engine", "d")
-        self.assertEqual(status, 1)
-        self.assertEqual(errors, "policy: left out, since no policy is in them: d/b/f.tests.yaml, d/b/values.yaml\n")
-        told = [line.split(": ")[0] for line in out.decode().splitlines() if ": would be " in line]
-        self.assertEqual(told, ["d/a.yaml", "d/f.bin", "d/wrong.yaml", "d/b/c.json"])
-        status, out, errors = self.run_here("check", "--without-engine", "d/.git")
-        self.assertEqual(status, 1)
-        (self.room / "empty").mkdir()
-        told = (2, b"", "policy: there is no policy to check\n")
-        self.assertEqual(self.run_here("check", "--without-engine", "empty"), told)
-
-
-class Logs(unittest.TestCase):
-    """Lines of a log of requests, each where it is."""
-
-    def test_lines(self):
-        log = '{"path": "/a"}\n\n{"request": {"path": "/b"}, "facts": {"source.port": 1}}\n' * 2
-        found = request_log(Source("log", log.encode()))
-        self.assertEqual([line for line, _, _ in found], [1, 3, 4, 6])
-        self.assertEqual(found[3][1].facts, {"source.port": 1})
-
-    def test_mistakes(self):
-        for bad, place in [('{"pth": "/a"}', "log:3:2: "), ('{"path": "/a"]}', "log:3:14: ")]:
-            with self.subTest(bad), self.assertRaises(Exception) as caught:
-                request_log(Source("log", ('{"path": "/a"}\n{"path": "/b"}\n' + bad + "\n").encode()))
-            self.assertTrue(str(caught.exception).startswith(place), str(caught.exception))

@@ -43,6 +43,8 @@ class Named(Room):
             ("./f.yaml", []),
             ("../tests/f.yaml", []),
             ("../policies/f.yaml", ["--root", "."]),
+            # the file of tests is below the current folder
+            ("../policies/f.yaml", []),
             (str(self.room / "tests" / "f.yaml"), []),
         ]:
             with self.subTest(policy):
@@ -53,12 +55,11 @@ class Named(Room):
         os.symlink(self.room / "secret", self.room / "tests" / "link.yaml")
         os.symlink(self.room, self.room / "tests" / "up")
         for policy, words in [
-            ("../policies/f.yaml", []),
             ("../../../../../../etc/passwd", []),
             ("../../../../../../etc/passwd", ["--root", "."]),
             ("/etc/passwd", ["--root", "tests"]),
-            ("link.yaml", []),
-            ("up/secret", []),
+            ("link.yaml", ["--root", "tests"]),
+            ("up/secret", ["--root", "tests"]),
             ("../policies/f.yaml", ["--root", "tests"]),
         ]:
             with self.subTest(policy, words=words):
@@ -95,6 +96,19 @@ class Named(Room):
         self.assertEqual(status, 1)
         self.assertIn("tests/g.yaml:1:17: one of these is expected: ALLOW, DENY, LOG", errors)
         self.assertIn("tests/g.yaml:1:39: Policy has no field `permission`", errors)
+
+    def test_names(self):
+        """Two tests of one name, and a policy that the filter does not have, are mistakes."""
+        tests = "[{name: a, request: {}, expect: allow}, {name: b, request: {}, expect: allow, matched: %s}, {name: a, request: {}, expect: allow}]"
+        self.file("tests/t.yaml", f"policy: f.yaml\ntests: {tests % 'q'}\n")
+        status, out, errors = self.run_here("test", "--engine", "./engine", "tests/t.yaml")
+        self.assertEqual((status, out.decode().count("not run: ")), (1, 2), out)
+        self.assertIn('the filter has no policy of this name: it has "p"; `none` is for no policy', errors)
+        self.assertIn("the test of line 2 has this name too", errors)
+        self.file("tests/t.yaml", f"policy: f.yaml\ntests: {(tests % 'p').replace('name: a', 'name: c', 1)}\n")
+        self.assertEqual(self.run_here("test", "--engine", "./engine", "tests/t.yaml")[0], 0)
+        self.file("tests/t.yaml", "policy: f.yaml\ntests: [{request: {}, expect: allow, matched: none}]\n")
+        self.assertIn(b"failed", self.run_here("test", "--engine", "./engine", "tests/t.yaml")[1])
 
     def test_no_plain_file(self):
         os.mkfifo(self.room / "tests" / "pipe")

@@ -18,6 +18,9 @@ ATTRIBUTES = {
     "source.user": PEER,
     "source.namespace": f"{PEER}; its text begins with spiffe://<trust domain>/ns/<namespace>/",
     "source.ip": BLOCKS,
+    "request.ip": BLOCKS,
+    "request.remote_ip": BLOCKS,
+    "request.client_ip": BLOCKS,
     "destination.ip": "write the permission destination_ip, such as `destination_ip: {address_prefix: 10.0.0.0}`",
     "connection.sni": "write connection.requested_server_name",
     "request.url": "write request.path (with the query) or request.url_path (without it)",
@@ -26,7 +29,13 @@ ATTRIBUTES = {
 NO_OPTIONALS = 'there are no optional values: ask for the key first, as in `"k" in m && m["k"] == "v"`'
 NO_SPLIT = "no text is split: write startsWith, endsWith or contains for the part that is meant"
 NO_INDEX_OF = "no text is cut or searched by position: write startsWith, endsWith or contains"
+SIZE = "write size(x) or x.size()"
+HAS_KEY = 'to ask for a header write `"x" in request.headers`, or `has(request.headers.x)`'
+GET_KEY = 'a header is request.headers["x"]; ask for it first, as in `"x" in request.headers && request.headers["x"] == "a"`'
 FUNCTIONS = {
+    **dict.fromkeys(["len", "length", "count", "strlen"], SIZE),
+    **dict.fromkeys(["containsKey", "hasKey"], HAS_KEY),
+    **dict.fromkeys(["get", "getOrDefault"], GET_KEY),
     **dict.fromkeys(["ip", "cidr", "isIP", "isCIDR", "containsIP", "containsCIDR", "prefixLength", "family"], BLOCKS),
     "split": NO_SPLIT,
     "join": NO_SPLIT,
@@ -45,6 +54,17 @@ NAMESPACES = {
     "base64": "nothing is encoded or decoded: compare the text as it is",
     "regex": "there are no regular expressions: write `==`, `startsWith`, `endsWith`, `contains` or `in`",
 }
+
+
+# Variables of other engines, with what they are here.
+VARIABLES = {
+    **dict.fromkeys(["client", "remote_ip", "client_ip", "source_ip", "ip"], BLOCKS),
+    **dict.fromkeys(["principal", "peer", "subject", "identity", "san"], PEER),
+    **dict.fromkeys(["jwt", "claims", "claim", "token", "auth", "user"], CLAIM),
+    **dict.fromkeys(["http", "req", "input"], "write request, such as request.path"),
+}
+# Fields of texts and lists of other languages.
+FIELDS = {name: SIZE for name in ("size", "length", "len", "count")}
 
 
 def of_attribute(name: str) -> Optional[str]:

@@ -23,6 +23,9 @@ WORDS_FOR_SIGNS = {"and": "&&", "or": "||", "not": "!", "is": "==", "eq": "==", 
 WORDS_BEFORE = {"not": "!", "if": "test ? one : other"}
 WORD_BEFORE = re.compile(r"\b([a-z]+)\s*\Z")
 QUOTES = frozenset("\"'")
+# Quotes of texts for people.
+CURLY = {**dict.fromkeys("\u201c\u201d\u201e\u00ab\u00bb", '"'), **dict.fromkeys("\u2018\u2019\u201a", "'")}
+EMPTY = "a condition is expected here, such as `request.method == \"GET\"`; without a condition leave the field out"
 NEGATIVE = "NEGATIVE_"
 # By it some readers end a comment and others do not.
 LONE_RETURN = re.compile(r"\r(?!\n)")
@@ -57,6 +60,8 @@ def _syntax(text: str) -> lark.Tree:
     if lone is not None:
         words = "there is a lone carriage return here: end the line with a line feed, or write `\\r` in a text"
         raise TextMistake(lone.start(), words)
+    if not text.strip():
+        raise TextMistake(0, EMPTY)
     if len(text) > MOST_NODES:
         _bound(text)
     try:
@@ -95,6 +100,8 @@ def _character_fault(text: str, place: int) -> TextMistake:
     doubled = {"=": "==", "&": "&&", "|": "||"}
     if character in doubled:
         return TextMistake(place, f"`{character}` is no operator: write `{doubled[character]}`")
+    if character in CURLY:
+        return TextMistake(place, f"`{character}` is no quote of the language: write {CURLY[character]}")
     if character == "`":
         return TextMistake(place, "a back quote has no meaning here; a text is in \" or '")
     return TextMistake(place, f"`{character}` has no meaning here")
@@ -102,6 +109,8 @@ def _character_fault(text: str, place: int) -> TextMistake:
 
 def _token_fault(text: str, token: lark.Token) -> TextMistake:
     """The mistake of a word that cannot be at its place."""
+    if token == ">" and text[: token.start_pos].endswith("<"):
+        return TextMistake(token.start_pos - 1, "`<>` is no operator: write `!=`")
     if token[0] in QUOTES and _starts_triple(text, token.start_pos):
         return TextMistake(token.start_pos - 2, "these quotes are not closed")
     sign = WORDS_FOR_SIGNS.get(str(token).lower())

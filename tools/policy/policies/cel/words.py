@@ -7,7 +7,7 @@ from . import nearest
 from .attributes import HEADERS, TYPES, attribute_name
 from .overloads import CALLED_BY_NAME, CONVERSIONS, EQUALITY, LOGIC, MEMBERSHIP, NEGATIONS, TEXT_TESTS
 from .printing import describe
-from .tree import ACCUMULATOR, BINARY, NEW_ACCUMULATOR, ROOTS, Call, Const, Ident, Node, Select
+from .tree import ACCUMULATOR, BINARY, NEW_ACCUMULATOR, ROOTS, Call, Const, Ident, ListLiteral, Node, Select
 from .typetext import type_text
 
 LONGEST = 40
@@ -88,6 +88,8 @@ def unknown_variable(name: str, locals_in_scope: Iterable[str]) -> str:
     if name.lower() in ("true", "false"):
         return f"the engine has no variable {name}; do you mean `{name.lower()}`?"
     first = name.partition(".")[0]
+    if first in nearest.VARIABLES:
+        return f"the engine has no variable {name}: {nearest.VARIABLES[first]}"
     if first in ENVOY_ROOTS:
         return f"Envoy's `{first}` is not in the profile: its attributes are those of {', '.join(ROOTS)}"
     if any(attribute.endswith("." + name) for attribute in TYPES):
@@ -146,6 +148,8 @@ def unknown_function(call: Call) -> str:
         )
     if name in MACROS:
         return f"`{name}` is written as {MACROS[name]}"
+    if name == "has":
+        return f"`has` is no function of a value: {nearest.HAS_KEY}"
     instead = INSTEAD_OF_FUNCTIONS.get(name) or nearest.FUNCTIONS.get(name)
     if instead is not None:
         return f"the engine has no function {name}: {instead}"
@@ -178,6 +182,9 @@ def wrong_shape(function: str) -> str:
 def no_overload(call: Call, operands: List[Node], kinds: List[tuple]) -> str:
     """What to tell of operands that no overload of a function takes."""
     function = call.function
+    if function == "contains" and kinds[0][0] in ("list", "map"):
+        what = "a key" if kinds[0][0] == "map" else "an element"
+        return f"{shown(operands[0])} is {a(kinds[0])}: to ask for {what} write `{shown(operands[1])} in {shown(operands[0])}`"
     if function in TEXT_TESTS:
         index = 0 if kinds[0] != ("string",) else 1
         return f"{shown(operands[index])} is {a(kinds[index])}; {function} takes two strings"
@@ -251,14 +258,29 @@ def _instead(function: str, operands: List[Node], kinds: List[tuple]) -> str:
         return f": write int({shown(node)})"
     if function in MEMBERSHIP and names == {"string"}:
         return ": to ask for a part of a text write whole.contains(part)"
+    if function in MEMBERSHIP and kinds[1][0] == "list":
+        return _element(operands, kinds)
     if function in EQUALITY and kinds[0][0] == "list" and kinds[0][1] == kinds[1]:
         return ": to ask for an element write `element in list`"
     return ""
 
 
+def _element(operands: List[Node], kinds: List[tuple]) -> str:
+    """What to write for the elements of a list that are of another type than what is sought in it."""
+    wanted = kinds[0][0]
+    texts = operands[1].elements if isinstance(operands[1], ListLiteral) else []
+    are_numbers = all(isinstance(text, Const) and text.kind == "string" and re.match(r"-?[0-9]+\Z", text.value) for text in texts)
+    if wanted in ("int", "uint") and kinds[1][1] == ("string",) and texts and are_numbers:
+        numbers = ", ".join(text.value + ("u" if wanted == "uint" else "") for text in texts)
+        return f": write [{numbers}] without quotes"
+    return f": the elements are of type {type_text(kinds[1][1])}, so what is sought is too"
+
+
 def no_field(node: Select, kind: tuple) -> str:
     """What to tell of a select on what is no map of texts."""
     what = f"{shown(node.operand)} is {a(kind)}"
+    if node.field in nearest.FIELDS and kind[0] in ("string", "list", "map"):
+        return f"{what} and has no field {node.field}: write size({shown(node.operand)})"
     return f"{what} and has no field {node.field}: only a map with keys of type string has fields"
 
 

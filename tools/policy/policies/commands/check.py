@@ -1,13 +1,16 @@
 """`policy check`: what the tool and the engine say of policy files."""
 import argparse
 import json
-from typing import List, Optional
+from typing import List
 
 from .. import engine, output
-from ..checking import Report, check_files
+from ..checking import ALWAYS, AUTO, MOST_SOLVED, NEVER, Report, Wanted, check_files
 from ..conditions_typing import Bound
 from ..bounds import figure
 from ..findings import NAMES, Finding, part_name
+from ..reportforms import FORMS, GITHUB, JSON, SARIF, TEXT, github_lines, json_lines, sarif_lines
+from ..version import version
+from ..watching import add_watch, watched
 from .common import DONE, MISTAKEN, MOST_TOLD, UNUSABLE, add_budget, add_engine, engine_of, in_order
 
 NAME = "check"
@@ -27,17 +30,28 @@ def add(commands) -> None:
     add_budget(parser)
     add_engine(parser)
     parser.add_argument(ALONE, action="store_true", help="ask no engine; the answer is the tool's own")
-    parser.add_argument("--json", action="store_true", help="print one JSON object a filter")
+    told = f"when python3-z3 is asked for notes too: always, never, or auto (the default), for at most {MOST_SOLVED} files"
+    parser.add_argument("--solver", choices=[AUTO, ALWAYS, NEVER], default=AUTO, metavar="WHEN", help=told)
+    told = "the form of the reports: text (the default), json, sarif for code scanning, or github for annotations"
+    parser.add_argument("--format", choices=FORMS, default=TEXT, metavar="FORM", help=told)
+    parser.add_argument("--json", action="store_const", const=JSON, dest="format", help="the same as --format json")
+    parser.add_argument("--fail-on-notes", action="store_true", help="status 1 also if there is a note")
+    add_watch(parser)
 
 
 def run(words: argparse.Namespace) -> int:
     """Prints the reports."""
+    return watched(words, words.files, _run)
+
+
+def _run(words: argparse.Namespace) -> int:
+    wanted = Wanted(words.budget, words.solver)
     try:
         if words.without_engine:
-            reports = check_files(words.files, words.budget, None)
+            reports = check_files(words.files, wanted, None)
         else:
             with engine_of(words) as asked:
-                reports = check_files(words.files, words.budget, asked)
+                reports = check_files(words.files, wanted, asked)
     except engine.NoEngine as fault:
         output.tell(f"policy: {fault} ({ALONE} answers without it)")
         return UNUSABLE
@@ -48,13 +62,41 @@ def run(words: argparse.Namespace) -> int:
     if not reports:
         output.tell("policy: there is no policy to check")
         return UNUSABLE
-    lines: List[str] = []
-    for report in reports:
-        lines += [json.dumps(as_json(report, words.budget))] if words.json else as_text(report, words.budget)
-    output.write("".join(output.visible(line) + "\n" for line in lines).encode(errors="replace"))
+    output.write("".join(output.visible(line) + "\n" for line in _lines(reports, words)).encode(errors="replace"))
+    return _status(reports, words.fail_on_notes)
+
+
+def _lines(reports: List[Report], words: argparse.Namespace) -> List[str]:
+    """The reports in the form that is asked for."""
+    if words.format == JSON:
+        return json_lines(reports, words.budget)
+    if words.format == SARIF:
+        return sarif_lines(reports, words.budget, version())
+    if words.format == GITHUB:
+        return github_lines(reports, words.budget)
+    lines = [line for report in reports for line in as_text(report, words.budget)]
+    return [*lines, _summary(reports)] if len(reports) > 1 else lines
+
+
+def _status(reports: List[Report], fail_on_notes: bool) -> int:
     if any(report.is_unread for report in reports):
         return UNUSABLE
+    if fail_on_notes and any(_notes(report) for report in reports):
+        return MISTAKEN
     return DONE if all(report.is_admitted() for report in reports) else MISTAKEN
+
+
+def _notes(report: Report) -> List[Finding]:
+    return [finding for finding in report.findings if not finding.number]
+
+
+def _summary(reports: List[Report]) -> str:
+    """The line that counts the filters and the notes."""
+    admitted = sum(report.is_admitted() for report in reports)
+    unread = sum(bool(report.mistakes) for report in reports)
+    notes = sum(len(_notes(report)) for report in reports)
+    refused = len(reports) - admitted - unread
+    return f"{len(reports)} filters: {admitted} admitted, {refused} refused, {unread} not read; {notes} note{'s' if notes != 1 else ''}"
 
 
 def as_text(report: Report, budget: int) -> List[str]:
@@ -101,51 +143,3 @@ def answer_of(report: Report, budget: int) -> str:
 def _bound_text(bound: Bound) -> str:
     name = json.dumps(bound.policy, ensure_ascii=False)
     return f"{name}: condition {figure(bound)} steps" if bound.condition is not None else f"{name}: no condition"
-
-
-def as_json(report: Report, budget: int) -> dict:
-    """A report as one object."""
-    findings = [_mistake_json(mistake) for mistake in report.mistakes]
-    findings += [_finding_json(finding) for finding in report.findings]
-    findings.sort(key=lambda one: (one["line"] or 0, one["column"] or 0))
-    refusal = None if report.is_admitted() or report.admission is None else report.admission.number
-    if refusal is None and not report.is_admitted():
-        refusal = next((finding.number for finding in report.findings if finding.number), None)
-    return {
-        "file": report.file,
-        "filter": report.name or None,
-        "admitted": report.is_admitted(),
-        "refused": refusal,
-        "name": NAMES.get(refusal) if refusal else None,
-        "bound": report.admission.bound if report.admission is not None and report.is_admitted() else None,
-        "budget": budget,
-        "policies": [_bound_json(bound) for bound in report.bounds],
-        "findings": findings,
-        "engine": report.admission is not None,
-    }
-
-
-def _bound_json(bound: Bound) -> dict:
-    return {"name": bound.policy, "bound": bound.steps, "condition": bound.condition is not None}
-
-
-def _place_json(place: Optional[tuple]) -> dict:
-    return {"line": place[0] + 1 if place else None, "column": place[1] + 1 if place else None}
-
-
-def _mistake_json(mistake) -> dict:
-    place = _place_json(mistake.place)
-    return {"kind": "mistake", "refused": mistake.number or None, "message": mistake.words, "part": None, **place}
-
-
-def _finding_json(finding: Finding) -> dict:
-    kind = "refused" if finding.number else "note"
-    message, part = finding.words.partition("\n")[0], part_name(finding.path) or None
-    return {
-        "kind": kind,
-        "refused": finding.number or None,
-        "lint": finding.lint or None,
-        "message": message,
-        "part": part,
-        **_place_json(finding.place),
-    }

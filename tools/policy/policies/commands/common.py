@@ -1,5 +1,6 @@
 """What several commands share: statuses, numbers on the command line, and how findings are printed."""
 import argparse
+import os
 from typing import Callable, Iterable, List
 
 from .. import engine, output
@@ -7,7 +8,8 @@ from ..bounds import BUDGET, GREATEST_BUDGET
 from ..findings import Finding
 from ..places import Mistake, Source
 
-DONE, MISTAKEN, UNUSABLE = 0, 1, 2
+DONE, MISTAKEN, UNUSABLE, NOT_DECIDED = 0, 1, 2, 3
+SECONDS = 20
 MOST_TOLD = 50
 
 
@@ -24,6 +26,19 @@ def add_budget(parser: argparse.ArgumentParser) -> None:
     parser.add_argument("--budget", type=budget, default=BUDGET, metavar="N", help=words)
 
 
+def seconds(text: str) -> float:
+    """A time in seconds."""
+    if not text.isascii() or not text.isdigit() or not 1 <= int(text) <= 3600:
+        raise argparse.ArgumentTypeError(f"a number of seconds from 1 to 3600 is expected, not {text}")
+    return float(text)
+
+
+def add_seconds(parser: argparse.ArgumentParser) -> None:
+    """Gives a command the option for how long it may search."""
+    words = f"how long each way to decide texts may take, of which there are up to three (default {SECONDS})"
+    parser.add_argument("--seconds", type=seconds, default=float(SECONDS), metavar="N", help=words)
+
+
 def add_engine(parser: argparse.ArgumentParser) -> None:
     """Gives a command the option for the engine's program."""
     words = "the engine's program (default: RBACD, the built rbacd of this checkout, or rbacd on the path)"
@@ -32,8 +47,9 @@ def add_engine(parser: argparse.ArgumentParser) -> None:
 
 def engine_of(words: argparse.Namespace) -> engine.Engine:
     """The engine to ask; a note says if it is not proved. Raises NoEngine."""
-    program = engine.find(words.engine)
-    if program == engine.UNPROVED:
+    named = words.engine or os.environ.get("RBACD")
+    program = engine.find(named)
+    if program == engine.UNPROVED and not named:
         output.tell(f"policy: note: {program} is not proved; bin/rbacd proves and builds the program")
     return engine.Engine(program)
 

@@ -1,33 +1,44 @@
-"""`policy diff`: which requests change their verdict between two filters, of a log or of those that can be made."""
+"""`policy diff`: whether two filters are equal, or which requests change their verdict between them."""
 import argparse
-from typing import List
+from typing import List, NamedTuple
 
-from .. import engine, output
-from ..compare.candidates import MOST_COMBINATIONS, MOST_LEAVES, candidates
-from ..compare.drafts import request_of, shown
-from ..compare.judging import Side, decisions, differences, plainest, side_of
+from .. import engine, output, requirements
+from ..compare.candidates import candidates
+from ..compare.drafts import request_of, shown, weight
+from ..compare.judging import Difference, Judges, decisions, differences, plainest, side_of
 from ..compare.leaves import policies_of
 from ..files import name_of, policy_text
 from ..outcomes import NONE, matched_of, message_of, quoted, told
 from ..places import Source
 from ..requests import request_log
 from ..testfiles import filter_of_file
-from .common import DONE, MISTAKEN, UNUSABLE, add_budget, add_engine, engine_of
+from .common import DONE, MISTAKEN, NOT_DECIDED, UNUSABLE, add_budget, add_engine, add_seconds, engine_of
 
 NAME = "diff"
 # So many requests that differ are shown.
 MOST_SHOWN = 10
+SOLVER_IS_MISSING = "python3-z3 is not installed"
+WRONG = "not decided: the solver takes this request for one that differs, and the engine does not; please report both filters"
+ALL_TOLD = "these are all that the leaves can tell apart"
+
+
+class Answer(NamedTuple):
+    """What is printed, and the status."""
+
+    lines: List[str]
+    status: int
 
 
 def add(commands) -> None:
     """Adds the command's words."""
     parser = commands.add_parser(
         NAME,
-        help="find requests that change their verdict",
-        description="Judges requests by both policies and prints those that differ: the requests of a log, or without one "
-        "those that the rules of both can tell apart. These are all of them if neither filter has a condition, they have "
-        f"at most {MOST_LEAVES} different leaves, and at most {MOST_COMBINATIONS} requests are made of these; the last line "
-        "says so. Status 0 if none differs, 1 if one does, 2 if they cannot be judged.",
+        help="decide whether two filters are equal, or find requests that change their verdict",
+        description="Decides whether two filters answer each request within the limits with the same verdict. If they do not, it "
+        "prints a request for each pair of policies that decide, the smallest first; the engine has confirmed each. This needs "
+        "python3-z3. Without it, and where nothing is decided, requests are made of the rules and conditions of both. With a log "
+        "of requests only these are judged. Status 0 if no verdict differs, 1 if one does, 3 if that was not decided, 2 if the "
+        "filters cannot be judged.",
     )
     parser.add_argument("old", metavar="OLD", help="a policy file of any form")
     parser.add_argument("new", metavar="NEW", help="another")
@@ -35,6 +46,7 @@ def add(commands) -> None:
     parser.add_argument("requests", metavar="REQUESTS", nargs="?", help=told_words)
     add_budget(parser)
     add_engine(parser)
+    add_seconds(parser)
     parser.add_argument("--filter", metavar="NAME", help="the filter to take of a file that holds several")
     parser.add_argument("--policies", action="store_true", help="print also where another policy matches")
 
@@ -44,52 +56,90 @@ def run(words: argparse.Namespace) -> int:
     sides = [side_of(name_of(file), filter_of_file(file, words.filter)) for file in (words.old, words.new)]
     try:
         with engine_of(words) as asked:
-            _check(asked, sides, words.budget)
-            lines, differ = _of_log(asked, sides, words) if words.requests else _of_leaves(asked, sides, words)
+            judges = Judges(asked, sides, words.budget)
+            _check(judges)
+            answer = _of_log(judges, words) if words.requests else _of_filters(judges, words)
     except engine.NoEngine as fault:
         output.tell(f"policy: {fault}")
         return UNUSABLE
-    output.write("".join(output.visible(line) + "\n" for line in lines).encode(errors="replace"))
-    return MISTAKEN if differ else DONE
+    output.write("".join(output.visible(line) + "\n" for line in answer.lines).encode(errors="replace"))
+    return answer.status
 
 
-def _check(asked: engine.Engine, sides: List[Side], budget: int) -> None:
+def _check(judges: Judges) -> None:
     """Raises NoEngine if a filter is refused."""
-    for side in sides:
-        for part in side.parts:
-            admission = asked.admission(part, budget)
-            if admission.number:
-                raise engine.NoEngine(f"{side.name}: {admission.line}; `policy check` says why")
+    parts = {part: side for side in judges.sides for part in side.parts}
+    for side, admission in zip(parts.values(), judges.asked.admissions(parts, judges.budget)):
+        if admission.number:
+            raise engine.NoEngine(f"{side.name}: {admission.line}; `policy check` says why")
 
 
-def _of_log(asked: engine.Engine, sides: List[Side], words: argparse.Namespace) -> tuple:
-    """The lines on the requests of a log, and whether one differs."""
+def _of_log(judges: Judges, words: argparse.Namespace) -> Answer:
+    """The requests of a log that differ."""
     log = request_log(Source(name_of(words.requests), policy_text(words.requests)))
-    both = decisions(asked, sides, [request for _, request, _ in log], words.budget)
+    both = decisions(judges.asked, judges.sides, [request for _, request, _ in log], judges.budget)
     lines: List[str] = []
     for (line, _, name), old, new in zip(log, *both):
         if told(old) != told(new) or words.policies and matched_of(old) != matched_of(new):
             lines.append(f"{name_of(words.requests)}:{line}: {name}: {_words(old)} -> {_words(new)}")
     changed = len(lines)
     lines.append(f"{len(log)} requests: {changed} changed, {len(log) - changed} the same")
-    return lines, changed > 0
+    return Answer(lines, MISTAKEN if changed else DONE)
 
 
-def _of_leaves(asked: engine.Engine, sides: List[Side], words: argparse.Namespace) -> tuple:
-    """The lines on the requests that the filters' rules can tell apart, and whether one differs."""
-    policies = [policy for side in sides for part in side.parts for policy in policies_of(message_of(part))]
+def _of_filters(judges: Judges, words: argparse.Namespace) -> Answer:
+    """What is decided of both filters; what is not, by samples."""
+    if requirements.missing_solver():
+        return _of_samples(judges, words.policies, SOLVER_IS_MISSING)
+    # it needs the solver's package
+    from ..compare import deciding
+
+    found = deciding.decide(judges, words.policies, words.seconds)
+    if found.word == deciding.EQUAL:
+        what = "the policy that matches" if words.policies else "the verdict"
+        return Answer([f"equal: each request within the limits has the same answer, compared by {what}"], DONE)
+    lines = _shown(found.differences)
+    if found.word == deciding.DIFFER:
+        return Answer([*lines, _count(found)], MISTAKEN)
+    if found.word == deciding.UNCONFIRMED:
+        return Answer([*lines, WRONG], UNUSABLE)
+    return _of_samples(judges, words.policies, found.why)
+
+
+def _count(found) -> str:
+    """The line that counts what differs."""
+    count = len(found.differences)
+    differ = f"{count} pair{'s' if count > 1 else ''} of answers differ{'' if count > 1 else 's'}"
+    if found.why:
+        return f"{differ}; there may be others: {found.why}"
+    others = "; there may be others" if count >= MOST_SHOWN else "; these are all pairs of policies that decide a difference"
+    return differ + others
+
+
+def _of_samples(judges: Judges, with_policies: bool, why: str) -> Answer:
+    """Those of the requests that the filters' rules can tell apart which differ, and why no more was decided."""
+    policies = [policy for side in judges.sides for part in side.parts for policy in policies_of(message_of(part))]
     made = candidates(policies)
-    both = decisions(asked, sides, [request_of(draft) for draft in made.drafts], words.budget)
-    found = differences(made.drafts, both, words.policies)
-    lines = [f"{_words(one.old)} -> {_words(one.new)}: {shown(one.draft)}" for one in plainest(found)]
-    if len(lines) > MOST_SHOWN:
-        lines[MOST_SHOWN:] = [f"{len(lines) - MOST_SHOWN} more pairs of answers are not shown"]
+    both = decisions(judges.asked, judges.sides, [request_of(draft) for draft in made.drafts], judges.budget)
+    found = differences(made.drafts, both, with_policies)
     is_whole = all("verdict" in answer for answers in both for answer in answers)
     gap = made.gap or ("" if is_whole else "some combinations are no requests within the limits")
     tried = f"{len(made.drafts)} requests made of {made.leaves} leaves: "
     tried += f"{len(found)} differ" if found else "no difference was found"
-    exactness = f"; there may be others: {gap}" if gap else "; these are all that the leaves can tell apart"
-    return [*lines, tried + exactness], bool(found)
+    if not gap:
+        return Answer([*_shown(plainest(found)), f"{tried}; {ALL_TOLD}"], MISTAKEN if found else DONE)
+    if found:
+        return Answer([*_shown(plainest(found)), f"{tried}; there may be others: {gap}; {why}"], MISTAKEN)
+    return Answer([f"{tried}; {gap}", f"not decided: {why}"], NOT_DECIDED)
+
+
+def _shown(found: List[Difference]) -> List[str]:
+    """The first differences, the smallest first."""
+    ordered = sorted(found, key=lambda one: weight(one.draft))
+    lines = [f"{_words(one.old)} -> {_words(one.new)}: {shown(one.draft)}" for one in ordered]
+    if len(lines) > MOST_SHOWN:
+        lines[MOST_SHOWN:] = [f"{len(lines) - MOST_SHOWN} more pairs of answers are not shown"]
+    return lines
 
 
 def _words(answer: dict) -> str:

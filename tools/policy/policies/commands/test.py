@@ -1,15 +1,18 @@
 """`policy test`: files of tests."""
 import argparse
 import fnmatch
+import os
 import time
 from typing import List, Optional, Tuple
 
 from .. import engine, output
 from ..coverage import Coverage, coverage
+from ..files import test_files_in
 from ..junit import document
 from ..outcomes import FAILED, NOT_RUN, PASSED, Outcome, run_tests
 from ..tap import json_lines, tap_lines
 from ..testfiles import Test, read_tests
+from ..watching import add_watch, watched
 from .common import DONE, MISTAKEN, UNUSABLE, add_engine, engine_of
 
 NAME = "test"
@@ -34,9 +37,9 @@ def add(commands) -> None:
         epilog=FORM,
         formatter_class=argparse.RawDescriptionHelpFormatter,
     )
-    parser.add_argument("files", nargs="+", metavar="FILE", help="a file of tests in YAML")
+    parser.add_argument("files", nargs="+", metavar="FILE", help="a file of tests in YAML, or a folder of them")
     add_engine(parser)
-    told = "the folder below which tests may name files (default: that of each file of tests)"
+    told = "the folder below which tests may name files (default: the current folder, for files of tests in it, else their own)"
     parser.add_argument("--root", metavar="DIR", help=told)
     told = "run the tests of such a name, as in '*admin*'; may be given again"
     parser.add_argument("--name", action="append", metavar="PATTERN", help=told)
@@ -47,12 +50,23 @@ def add(commands) -> None:
     parser.add_argument(
         "--covered", action="store_true", help="fail if a policy was never matched or a condition never false"
     )
+    add_watch(parser)
 
 
 def run(words: argparse.Namespace) -> int:
     """Runs the tests and prints their outcomes."""
+    # a test's policies are in its folder, or below the root
+    around = [name if os.path.isdir(name) else os.path.dirname(name) or "." for name in words.files]
+    return watched(words, [*around, *([words.root] if words.root else [])], _run)
+
+
+def _run(words: argparse.Namespace) -> int:
     started = time.monotonic()
-    tests = [test for name in words.files for test in read_tests(name, words.root)]
+    files = [file for name in words.files for file in (test_files_in(name) if os.path.isdir(name) else [name])]
+    if not files:
+        output.tell(f"policy: no file of tests is in {', '.join(words.files)}")
+        return UNUSABLE
+    tests = [test for name in files for test in read_tests(name, words.root)]
     chosen = [test for test in tests if _is_chosen(test, words.name)]
     if not any(test.expect for test in chosen) and words.name and len(chosen) < len(tests):
         output.tell(f"policy: no test has such a name: {', '.join(words.name)}")

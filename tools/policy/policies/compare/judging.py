@@ -6,7 +6,7 @@ from ..faults import MOST_POLICIES
 from ..messages import Message
 from ..outcomes import matched_of, message_of, told
 from ..writer import PLAIN
-from .drafts import Draft, weight
+from .drafts import Draft, request_of, weight
 
 # So many requests are one run of the engine.
 AT_ONCE = 5_000
@@ -39,6 +39,11 @@ def side_of(name: str, data: bytes) -> Side:
     return Side(name, [_with_policies(message, ordered[start : start + MOST_POLICIES]) for start in starts])
 
 
+def side_of_some(side: Side, policies: list) -> Side:
+    """A filter with some of its policies, each a name and a message."""
+    return Side(side.name, [_with_policies(message_of(side.parts[0]), policies)])
+
+
 def _with_policies(message: Message, policies: list) -> bytes:
     """The bytes of a filter with other policies."""
     rules, made = message.get("rules"), Message(message.kind)
@@ -51,18 +56,30 @@ def _with_policies(message: Message, policies: list) -> bytes:
 def decisions(asked: Engine, sides: List[Side], requests: List[Request], budget: int) -> List[List[dict]]:
     """What each filter answers to each request."""
     chunks = [requests[start : start + AT_ONCE] for start in range(0, len(requests), AT_ONCE)]
-    work = [(part, chunk) for side in sides for part in side.parts for chunk in chunks]
+    # filters that are alike have parts in common
+    parts = list(dict.fromkeys(part for side in sides for part in side.parts))
+    work = [(part, chunk) for part in parts for chunk in chunks]
     answered = iter(list(in_parallel(lambda one: asked.decisions(one[0], one[1], budget), work)))
-    found = []
-    for side in sides:
-        of_parts = [[answer for _ in chunks for answer in next(answered)] for _ in side.parts]
-        found.append([_joined(answers) for answers in zip(*of_parts)])
-    return found
+    known = {part: [answer for _ in chunks for answer in next(answered)] for part in parts}
+    return [[_joined(answers) for answers in zip(*(known[part] for part in side.parts))] for side in sides]
 
 
 def _joined(answers: Tuple[dict, ...]) -> dict:
     """The answer of a filter by those of its parts: that of the first part with a policy that matches."""
     return next((answer for answer in answers if answer.get("name") is not None), answers[0])
+
+
+class Judges(NamedTuple):
+    """Two filters, and the engine that judges by them."""
+
+    asked: Engine
+    sides: List[Side]
+    budget: int
+
+    def answers(self, drafts: List[Draft]) -> List[Difference]:
+        """What both filters answer to each request, equal or not."""
+        both = decisions(self.asked, self.sides, [request_of(draft) for draft in drafts], self.budget)
+        return [Difference(*one) for one in zip(drafts, *both)]
 
 
 def differences(drafts: List[Draft], both: List[List[dict]], with_policies: bool) -> List[Difference]:

@@ -66,7 +66,7 @@ def lower_ascii(text: str) -> str:
     return "".join(one.lower() if one.isascii() else one for one in text)
 
 
-class _Reader:
+class Reader:
     """One test as it reads a text: how many characters of the sought text are read, or that none can be any more."""
 
     def __init__(self, test: TextTest):
@@ -101,7 +101,7 @@ class _Reader:
 def classes(tests: List[TextTest], domain: Domain) -> Optional[List[str]]:
     """For each set of tests that a text can pass the shortest possible text, shortest first, or None if they are too many to
     be found."""
-    readers = [_Reader(test) for test in tests]
+    readers = [Reader(test) for test in tests]
     alphabet = _alphabet(tests, domain)
     start = (*(0 for _ in readers), False, False, True)
     seen, left, found = {start}, deque([("", start)]), {}
@@ -123,7 +123,7 @@ def classes(tests: List[TextTest], domain: Domain) -> Optional[List[str]]:
     return list(found.values())
 
 
-def _after(readers: List[_Reader], state: tuple, character: str) -> tuple:
+def _after(readers: List[Reader], state: tuple, character: str) -> tuple:
     """The state after one more character; its last parts say whether the path has ended, whether the text ends in white
     space, and whether it is empty."""
     ended = state[-3] or character in ENDS

@@ -208,6 +208,8 @@ def _named(key: str, value: Node, own: str) -> List[Tuple[str, Node]]:
 def _other_object(node: Node) -> str:
     """What to tell of an object of Kubernetes that holds no filter."""
     what = f"{text_of(get(node, 'kind'))} of {text_of(get(node, 'apiVersion'))}"
+    if text_of(get(node, "kind")) == istio.KIND:
+        return f"this is an {what}, which is another object than Istio's, of {istio.GROUP}: its rules are no filter"
     return f"this is a {what}, which holds no filter: an AuthorizationPolicy or an EnvoyFilter is expected"
 
 

@@ -14,6 +14,7 @@ from .nodes import Node, get, items, key_of, mapping, pairs, sequence, text, tex
 from .rewrite import PERMISSION, PRINCIPAL, Kind, all_of, any_of, everything, negation
 
 KIND = "AuthorizationPolicy"
+GROUP = "security.istio.io"
 ACTIONS = {"ALLOW": "ALLOW", "DENY": "DENY", "AUDIT": "LOG"}
 SPEC_FIELDS = frozenset(["selector", "targetRef", "targetRefs", "action", "rules", "provider"])
 RULE_FIELDS = frozenset(["from", "to", "when"])
@@ -24,8 +25,9 @@ ORDER = ["DENY", "ALLOW", "LOG"]
 
 
 def is_policy(node: Optional[Node]) -> bool:
-    """Whether a document is such a policy."""
-    return text_of(get(node, "kind")) == KIND
+    """Whether a document is such a policy; other projects have objects of the same name."""
+    group = (text_of(get(node, "apiVersion")) or GROUP).partition("/")[0]
+    return text_of(get(node, "kind")) == KIND and group == GROUP
 
 
 class Translation:

@@ -10,6 +10,7 @@ from ..findings import NOTE, Finding
 from ..messages import Message
 from ..placing import node_places
 from .names import HOST_HEADER, LOWER_CASE, MISSING, UPPER_CASE, Lint
+from .of_edges import addresses_of, edges_of
 from .of_paths import Paths, path_test
 from .of_rules import METHODS
 
@@ -40,6 +41,7 @@ def remarks_of(policy: Message, paths: Paths, path: tuple, encoding) -> List[Fin
 def _remarks(tree: Node, is_deny: bool) -> List[Remark]:
     """The remarks on a condition."""
     found = [*_upper_case(tree), *_upper_case_in_loops(tree, frozenset()), *_host_key(tree), *_methods(tree)]
+    found += [*_edges(tree, is_deny), *addresses_of(tree)]
     return found + ([*_missing_headers(tree), *_missing_facts(tree)] if is_deny else [])
 
 
@@ -109,6 +111,13 @@ def _other_paths(tree: Node, paths: Paths) -> Iterator[Remark]:
         test = path_test(node) if is_negated != paths.is_deny else None
         notes = [paths.note(text, test.holds) for text in test.texts] if test is not None else []
         yield from [(node, note) for note in notes if note is not None][:1]
+
+
+def _edges(tree: Node, is_deny: bool) -> Iterator[Remark]:
+    """Tests that let more requests pass than it seems."""
+    for node, is_negated in _conjuncts(tree, False):
+        if is_negated == is_deny:
+            yield from edges_of(node)
 
 
 def _conjuncts(node: Node, is_negated: bool) -> Iterator[Tuple[Node, bool]]:

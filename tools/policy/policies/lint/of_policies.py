@@ -5,7 +5,7 @@ from ..conditions_typing import condition_of
 from ..findings import Finding
 from ..messages import Message
 from ..writer import PLAIN
-from .names import NEVER_FIRST, Lint
+from .names import ANY_ANY, NEVER_FIRST, Lint
 
 SIDES = ("permissions", "principals")
 
@@ -41,6 +41,13 @@ def never_first(policies: Dict[str, Message]) -> Iterator[Tuple[str, Finding]]:
             yield name, Lint(NEVER_FIRST, words).at(())
         elif condition_of(policies[name]) is None:
             earlier[name] = own
+
+
+def matches_all(policies: Dict[str, Message], is_deny: bool) -> Iterator[Tuple[str, Finding]]:
+    """Policies that match each request, with the note."""
+    for name, policy in policies.items():
+        if all(side.has_any for side in _sides(policy)) and condition_of(policy) is None:
+            yield name, Lint(ANY_ANY, f"this policy matches each request, and the filter {'denies' if is_deny else 'lets pass'} all").at(())
 
 
 def _before(own: List[_Side], earlier: Dict[str, List[_Side]]):

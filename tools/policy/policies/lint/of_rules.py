@@ -9,6 +9,7 @@ from ..faults import has_address
 from ..findings import Finding
 from ..messages import Message
 from .names import HOST_BITS, HOST_HEADER, LOWER_CASE, NEEDLESS, NEVER, NO_PREFIX_LEN, Lint
+from .of_edges import edge, of_header
 from .of_paths import Paths
 
 SETS = {"and_rules": "rules", "or_rules": "rules", "and_ids": "ids", "or_ids": "ids"}
@@ -117,6 +118,10 @@ def _of_test(test: TextTest, path: tuple, dimension: Dimension, sense: Sense) ->
         note = sense.paths.note(test.sought, test.passes)
         if note is not None:
             yield note.at(path)
+    elif not sense.denies:
+        note = edge(test.kind, test.sought, dimension)
+        if note is not None:
+            yield note.at(path)
 
 
 def _never(test: TextTest, dimension: Dimension) -> Optional[str]:
@@ -147,6 +152,9 @@ def _of_header(message: Message, path: tuple, sense: Sense) -> Found:
         yield Lint(NEVER, "no request that is judged has a header of this name").at((*path, "name"))
         return
     sense = sense.turned(bool(message.scalar("invert_match")))
+    of_client = None if sense.denies else of_header(name)
+    if of_client is not None:
+        yield of_client.at((*path, "name"))
     member = message.which("header_match_specifier")
     if member in OLD_TESTS:
         yield from _of_test(TextTest(OLD_TESTS[member], message.get(member)), (*path, member), dimension, sense)

@@ -10,7 +10,7 @@ import yaml
 
 from ..findings import NOTE, Finding
 from ..places import Place, Source
-from .names import MEANINGS, OTHER_PATHS, UNUSED
+from .names import MEANINGS, OTHER_PATHS, SOLVED, UNUSED
 
 COMMENT = re.compile(r"#\s*policy:\s*ignore\s+(?P<names>[\w-]+(?:\s*,\s*[\w-]+)*)\s*\Z")
 
@@ -48,14 +48,15 @@ class Silencing:
             self.used[one.place, finding.lint] = True
         return bool(found)
 
-    def unused(self) -> List[Finding]:
-        """Notes on names in comments that silence nothing, once all findings of the file were asked for."""
+    def unused(self, is_solved: bool = True) -> List[Finding]:
+        """Notes on names in comments that silence nothing, once all findings of the file were asked for; of those that only a
+        solver may find, if it was asked."""
         found = []
         for (place, name), is_used in self.used.items():
             if name not in MEANINGS:
                 known = ", ".join(known for known in MEANINGS if known != UNUSED)
                 found.append(Finding(NOTE, f"there is no note of the name {name}: they are {known}", place, (), UNUSED))
-            elif not is_used:
+            elif not is_used and (is_solved or name not in SOLVED):
                 found.append(Finding(NOTE, f"there is no note {name} here to silence", place, (), UNUSED))
         return found
 
