@@ -1,3 +1,4 @@
 pub mod Sizes
 pub mod Costs
+pub mod Visits
 pub mod Reaches

@@ -1,3 +1,4 @@
+pub mod BudgetLaws
 pub mod Capped
 pub mod SizeViews
 pub mod Calls
@@ -7,16 +8,4 @@ pub mod Locals
 pub mod Places
 pub mod Steps
 pub mod Counting
-pub mod Alike
-pub mod Joins
-pub mod Lasting
-pub mod Choices
 pub mod Pairs
-pub mod MemoViews
-pub mod Remembering
-pub mod Forms
-pub mod Shapes
-pub mod Formulas
-pub mod Terms
-pub mod FormRules
-pub mod Surveys

@@ -9,6 +9,7 @@ use Rattle.cel_types.specs.declared.typed.TypedExpr.{TypedExpr}
 use Rattle.cel_value.specs.Types.{ValueType}
 use Rattle.cel_costs.specs.Costs.{call_size, charge_at, cost_of, costs_of, size_of, sizes_of, total}
 use Rattle.cel_costs.specs.Sizes.{Size}
+use Rattle.cel_costs.specs.Visits.{visits_of, visits_of_each}
 use Rattle.cost_bound.specs.private.Measuring.{call_part}
 use Rattle.cost_bound.specs.private.Numbers.{capped}
 use Rattle.cost_bound.proofs.Calls.{part_covers}
@@ -25,6 +26,17 @@ pair_of (a ∷ b ∷ []) y z l ss two isy isz =
     let second : z ≡ b = isz in
     rw (first, second) (refl, omega arith)
 pair_of (a ∷ b ∷ d ∷ es) y z l ss two isy isz = absurd (omega arith)
+
+pub pair_seen : (es : List TypedExpr) (y z : TypedExpr) (l : LimitsValue) (ss : List Size) → length es ≡ 2
+    → y ≡ get_or es 0 y → z ≡ get_or es 1 z
+    → visits_of_each (exprs_view es) l ss ≡ visits_of (expr_view y) l ss + visits_of (expr_view z) l ss
+pair_seen [] y z l ss two isy isz = absurd (omega arith)
+pair_seen (a ∷ []) y z l ss two isy isz = absurd (omega arith)
+pair_seen (a ∷ b ∷ []) y z l ss two isy isz =
+    let first : y ≡ a = isy in
+    let second : z ≡ b = isz in
+    rw (first, second) (omega arith)
+pair_seen (a ∷ b ∷ d ∷ es) y z l ss two isy isz = absurd (omega arith)
 
 pub pair_found : (es : List TypedExpr) (o : Overload) (y z : TypedExpr) (l : LimitsValue) (ss : List Size)
     (a b size : Size) (left one other part rest : ℕ) → length es ≡ 2

@@ -1,34 +1,21 @@
 -- What each step of measuring adds up to.
-use Rattle.std.proofs.Common.{◌≡◌, ℕ, suc, ◌+◌, ◌-◌, ◌<◌, ◌≤◌, List, [], ◌∷◌, length, drop, get_or, refl, ap, ◌∙◌, arith, inr}
+use Rattle.std.proofs.Common.{◌≡◌, ℕ, suc, ◌+◌, ◌-◌, ◌<◌, ◌≤◌, List, [], ◌∷◌, length, drop, get_or, refl, ap, ◌∙◌, arith, inl, inr}
 use Rattle.std.proofs.lemmas.List.{drop_more}
 use Rattle.attributes.specs.Limits.{LimitsValue}
-use Rattle.cel_types.specs.Elaborated.{TypedTrees, no_typed, typed}
+use Rattle.cel_types.specs.Elaborated.{TypedTree, typed_constant, typed_local, typed_attribute, typed_field, typed_has, typed_call, typed_list, typed_map, typed_loop, TypedTrees, no_typed, typed, kind}
 use Rattle.cel_types.specs.View.{TypedParts, expr_view, loop_of}
 use Rattle.cel_types.specs.private.ExprViews.{exprs_view}
 use Rattle.cel_types.specs.declared.typed.TypedExpr.{TypedExpr}
 use Rattle.cel_value.specs.Types.{ValueType}
 use Rattle.std.specs.Prelude.{Result, IfErr, IsErrAnd}
-use Rattle.std.proofs.lemmas.Result.{IfErr-weaker}
-use Rattle.proto_wire.proofs.Exits.{exit_memory_or, memory_or_weaker}
+use Rattle.proto_wire.proofs.Exits.{exit_memory_or, last_memory_or}
 use Rattle.proto_wire.specs.Refusal.{MemoryOr}
 use Rattle.proto_wire.specs.declared.refusal.Refusal.{Refusal}
 use Rattle.cel_costs.specs.Costs.{cost_of, costs_of, field_cost, grown, size_of, sizes_of, total, turns_cost, variable_sizes}
 use Rattle.cel_costs.specs.Sizes.{Size, most_of}
-use Rattle.cost_bound.specs.private.Measuring.{CostsMore, next_size, turn_cost}
+use Rattle.cel_costs.specs.Visits.{turns_visits, visits_of, visits_of_each, weight}
+use Rattle.cost_bound.specs.private.Measuring.{CostsMore, Exceeds, VisitsMore, loop_visits, next_size, turn_cost, turn_visits, visits_inside}
 use Rattle.cost_bound.proofs.Capped.{one_less, paid}
-
--- a lookup of a field charges one and the rest of it
-pub field_once : (name : List ℕ) (s : Size) → field_cost name s ≡ 1 + (field_cost name s - 1)
-field_once name s = ap (λ k. 1 + k) (one_less _)
-
--- what more than is left costs, with more besides still does
-pub costs_more : (a b left : ℕ) (e : Refusal) → a ≤ b → CostsMore a left e → CostsMore b left e
-costs_more a b left e fits more = (more.0, omega (arith, more.1))
-
--- after a part was paid, another one costs more than its rest
-pub costs_more_then : (a b left rest : ℕ) (e : Refusal) → left ≡ a + rest → CostsMore b rest e
-    → CostsMore (a + b) left e
-costs_more_then a b left rest e paid more = (more.0, omega (arith, more.1))
 
 -- there are as many costs as sizes
 pub as_many : (es : TypedTrees) (l : LimitsValue) (ss : List Size)
@@ -42,112 +29,46 @@ pub cost_count : (es : List TypedExpr) (l : LimitsValue) (ss : List Size)
 cost_count [] l ss = refl
 cost_count (e ∷ es) l ss = ap suc (cost_count es l ss)
 
--- one more expression measured, of those from a place on
-pub sizes_from : (es : List TypedExpr) (i : ℕ) (d : TypedExpr) (l : LimitsValue) (ss : List Size)
-    → i < length es
-    → sizes_of (exprs_view (drop i es)) l ss
-    ≡ size_of (expr_view (get_or es i d)) l ss ∷ sizes_of (exprs_view (drop (i + 1) es)) l ss
-sizes_from es i d l ss within = ap (λ x. sizes_of (exprs_view x) l ss) (drop_more es i d within)
+-- what exceeds a part's budget or visits makes the whole exceed its own
+exceeds : (a rest b left u others v visits : ℕ) (e : Refusal) → (rest < a → left < b)
+    → (others < u → visits < v) → Exceeds a rest u others e → Exceeds b left v visits e
+exceeds a rest b left u others v visits e more seen (inl cost) = inl (cost.0, more cost.1)
+exceeds a rest b left u others v visits e more seen (inr count) = inr (count.0, seen count.1)
 
-pub costs_from : (es : List TypedExpr) (i : ℕ) (d : TypedExpr) (l : LimitsValue) (ss : List Size)
-    → i < length es
-    → total (costs_of (exprs_view (drop i es)) l ss)
-    ≡ cost_of (expr_view (get_or es i d)) l ss + total (costs_of (exprs_view (drop (i + 1) es)) l ss)
-costs_from es i d l ss within = ap (λ x. total (costs_of (exprs_view x) l ss)) (drop_more es i d within)
+-- at a `?` on a part
+pub exit_more : {T : Type 0} (a rest b left u others v visits : ℕ) (r : Result T Refusal) (e : Refusal)
+    → IsErrAnd r (λ y. y ≡ e) → MemoryOr (Exceeds a rest u others) e → (rest < a → left < b)
+    → (others < u → visits < v) → IfErr r (MemoryOr (Exceeds b left v visits))
+exit_more a rest b left u others v visits r e told fault more seen =
+    exit_memory_or (Exceeds a rest u others) (Exceeds b left v visits) r e told fault
+    (λ d f. exceeds a rest b left u others v visits d more seen f)
 
--- at a `?` on a part: what costs more than was left for the part makes the whole cost more
-pub exit_more : {T : Type 0} (a rest b left : ℕ) (r : Result T Refusal) (e : Refusal)
-    → IsErrAnd r (λ y. y ≡ e) → MemoryOr (CostsMore a rest) e → (rest < a → left < b)
-    → IfErr r (MemoryOr (CostsMore b left))
-exit_more a rest b left r e told fault more =
-    exit_memory_or (CostsMore a rest) (CostsMore b left) r e told fault (λ d f. (f.0, more f.1))
-
--- the same at a charge
-pub exit_charge : {T : Type 0} (a rest b left : ℕ) (r : Result T Refusal) (e : Refusal)
+-- at a charge
+pub exit_charge : {T : Type 0} (a rest b left v visits : ℕ) (r : Result T Refusal) (e : Refusal)
     → IsErrAnd r (λ y. y ≡ e) → CostsMore a rest e → (rest < a → left < b)
-    → IfErr r (MemoryOr (CostsMore b left))
-exit_charge a rest b left r e told fault more = exit_more a rest b left r e told (inr fault) more
+    → IfErr r (MemoryOr (Exceeds b left v visits))
+exit_charge a rest b left v visits r e told fault more =
+    exit_more a rest b left 0 0 v visits r e told (inr (inl fault)) more (λ none. absurd (omega arith))
 
--- the same at a last call
-pub last_more : {T : Type 0} (a rest b left : ℕ) (r : Result T Refusal) → (rest < a → left < b)
-    → IfErr r (MemoryOr (CostsMore a rest)) → IfErr r (MemoryOr (CostsMore b left))
-last_more a rest b left r more h =
-    IfErr-weaker r (MemoryOr (CostsMore a rest)) (MemoryOr (CostsMore b left))
-    (λ e fault. memory_or_weaker (CostsMore a rest) (CostsMore b left) e (λ d f. (f.0, more f.1)) fault) h
+-- at a last call
+pub last_more : {T : Type 0} (a rest b left u others v visits : ℕ) (r : Result T Refusal) → (rest < a → left < b)
+    → (others < u → visits < v) → IfErr r (MemoryOr (Exceeds a rest u others))
+    → IfErr r (MemoryOr (Exceeds b left v visits))
+last_more a rest b left u others v visits r more seen h =
+    last_memory_or (Exceeds a rest u others) (Exceeds b left v visits) r h
+    (λ e f. exceeds a rest b left u others v visits e more seen f)
 
--- a comprehension: what is paid for its parts, one after the other
-pub loop_adds : (p : TypedParts) (t : ValueType) (l : LimitsValue) (ss E : List Size) (R I G : Size)
-    (n left r o i s g c m : ℕ)
+-- the cost of a comprehension, by the sizes of its parts
+pub loop_costs : (p : TypedParts) (t : ValueType) (l : LimitsValue) (ss E : List Size) (R I G : Size) (n : ℕ)
     → R ≡ size_of p.range l ss → n ≡ most_of R → E ≡ variable_sizes p.variables R → I ≡ size_of p.init l ss
     → G ≡ grown (next_size p l E ss) n I
-    → left ≡ cost_of p.range l ss + r → r ≡ 1 + n + o → o ≡ cost_of p.init l ss + i → i ≡ 1 + 0 + s
-    → s ≡ turns_cost (next_size p l E ss) (turn_cost p l E ss) n I + g → g ≡ 1 + 0 + c
-    → c ≡ cost_of p.result l (G ∷ ss) + m
-    → left ≡ cost_of (loop_of t p) l ss + m
-loop_adds p t l ss E R I G n left r o i s g c m range most each init gathered h1 h2 h3 h4 h5 h6 h7 =
+    → cost_of (loop_of t p) l ss ≡ cost_of p.range l ss + (1 + n) + cost_of p.init l ss + 1
+    + turns_cost (next_size p l E ss) (turn_cost p l E ss) n I + 1 + cost_of p.result l (G ∷ ss)
+loop_costs p t l ss E R I G n range most each init gathered =
     let most' : n ≡ most_of (size_of p.range l ss) = most ∙ ap most_of range in
     let each' : E ≡ variable_sizes p.variables (size_of p.range l ss) =
     each ∙ ap (variable_sizes p.variables) range in
-    let all = rw (each', most', init) at gathered in
-    let turns = rw (each', most', init) at h5 in
-    let opened = rw most' at h2 in
-    let result = rw all at h7 in
-    let whole : cost_of (loop_of t p) l ss
-    ≡ cost_of p.range l ss + (1 + most_of (size_of p.range l ss)) + cost_of p.init l ss + 1
-    + turns_cost (next_size p l (variable_sizes p.variables (size_of p.range l ss)) ss)
-    (turn_cost p l (variable_sizes p.variables (size_of p.range l ss)) ss) (most_of (size_of p.range l ss))
-    (size_of p.init l ss)
-    + 1 + cost_of p.result l (grown (next_size p l (variable_sizes p.variables (size_of p.range l ss)) ss)
-    (most_of (size_of p.range l ss)) (size_of p.init l ss) ∷ ss) = refl in
-    rw whole (omega arith)
-
--- what is short of the cost of its turns is short of its own
-pub loop_short : (p : TypedParts) (t : ValueType) (l : LimitsValue) (ss E : List Size) (R I : Size)
-    (n left r o i s : ℕ)
-    → R ≡ size_of p.range l ss → n ≡ most_of R → E ≡ variable_sizes p.variables R → I ≡ size_of p.init l ss
-    → left ≡ cost_of p.range l ss + r → r ≡ 1 + n + o → o ≡ cost_of p.init l ss + i → i ≡ 1 + 0 + s
-    → s < turns_cost (next_size p l E ss) (turn_cost p l E ss) n I
-    → left < cost_of (loop_of t p) l ss
-loop_short p t l ss E R I n left r o i s range most each init h1 h2 h3 h4 short =
-    let most' : n ≡ most_of (size_of p.range l ss) = most ∙ ap most_of range in
-    let each' : E ≡ variable_sizes p.variables (size_of p.range l ss) =
-    each ∙ ap (variable_sizes p.variables) range in
-    let turns = rw (each', most', init) at short in
-    let opened = rw most' at h2 in
-    let whole : cost_of (loop_of t p) l ss
-    ≡ cost_of p.range l ss + (1 + most_of (size_of p.range l ss)) + cost_of p.init l ss + 1
-    + turns_cost (next_size p l (variable_sizes p.variables (size_of p.range l ss)) ss)
-    (turn_cost p l (variable_sizes p.variables (size_of p.range l ss)) ss) (most_of (size_of p.range l ss))
-    (size_of p.init l ss)
-    + 1 + cost_of p.result l (grown (next_size p l (variable_sizes p.variables (size_of p.range l ss)) ss)
-    (most_of (size_of p.range l ss)) (size_of p.init l ss) ∷ ss) = refl in
-    rw whole (omega arith)
-
--- and what is short of the cost of its end once its turns are paid
-pub loop_ends_short : (p : TypedParts) (t : ValueType) (l : LimitsValue) (ss E : List Size) (R I G : Size)
-    (n left r o i s g : ℕ)
-    → R ≡ size_of p.range l ss → n ≡ most_of R → E ≡ variable_sizes p.variables R → I ≡ size_of p.init l ss
-    → G ≡ grown (next_size p l E ss) n I
-    → left ≡ cost_of p.range l ss + r → r ≡ 1 + n + o → o ≡ cost_of p.init l ss + i → i ≡ 1 + 0 + s
-    → s ≡ turns_cost (next_size p l E ss) (turn_cost p l E ss) n I + g
-    → g < 1 + cost_of p.result l (G ∷ ss)
-    → left < cost_of (loop_of t p) l ss
-loop_ends_short p t l ss E R I G n left r o i s g range most each init gathered h1 h2 h3 h4 h5 short =
-    let most' : n ≡ most_of (size_of p.range l ss) = most ∙ ap most_of range in
-    let each' : E ≡ variable_sizes p.variables (size_of p.range l ss) =
-    each ∙ ap (variable_sizes p.variables) range in
-    let all = rw (each', most', init) at gathered in
-    let turns = rw (each', most', init) at h5 in
-    let opened = rw most' at h2 in
-    let result = rw all at short in
-    let whole : cost_of (loop_of t p) l ss
-    ≡ cost_of p.range l ss + (1 + most_of (size_of p.range l ss)) + cost_of p.init l ss + 1
-    + turns_cost (next_size p l (variable_sizes p.variables (size_of p.range l ss)) ss)
-    (turn_cost p l (variable_sizes p.variables (size_of p.range l ss)) ss) (most_of (size_of p.range l ss))
-    (size_of p.init l ss)
-    + 1 + cost_of p.result l (grown (next_size p l (variable_sizes p.variables (size_of p.range l ss)) ss)
-    (most_of (size_of p.range l ss)) (size_of p.init l ss) ∷ ss) = refl in
-    rw whole (omega arith)
+    rw (gathered, each', most', init) refl
 
 -- and its size
 pub loop_size : (p : TypedParts) (t : ValueType) (l : LimitsValue) (ss E : List Size) (R I G : Size) (n : ℕ)
@@ -160,3 +81,15 @@ loop_size p t l ss E R I G n range most each init gathered =
     each ∙ ap (variable_sizes p.variables) range in
     let all = rw (each', most', init) at gathered in
     ap (λ k. size_of p.result l (k ∷ ss)) all
+
+-- and its visits
+pub loop_seen : (p : TypedParts) (l : LimitsValue) (ss E : List Size) (R I G : Size) (n : ℕ)
+    → R ≡ size_of p.range l ss → n ≡ most_of R → E ≡ variable_sizes p.variables R → I ≡ size_of p.init l ss
+    → G ≡ grown (next_size p l E ss) n I
+    → loop_visits p l ss ≡ visits_of p.range l ss + visits_of p.init l ss
+    + turns_visits (next_size p l E ss) (turn_visits p l E ss) n I + visits_of p.result l (G ∷ ss)
+loop_seen p l ss E R I G n range most each init gathered =
+    let most' : n ≡ most_of (size_of p.range l ss) = most ∙ ap most_of range in
+    let each' : E ≡ variable_sizes p.variables (size_of p.range l ss) =
+    each ∙ ap (variable_sizes p.variables) range in
+    rw (gathered, each', most', init) refl

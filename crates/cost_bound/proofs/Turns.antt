@@ -1,6 +1,9 @@
 -- Turns, one after the other: once what is gathered grows no more, the others cost the same each.
-use Rattle.std.proofs.Common.{◌≡◌, ℕ, suc, zero, ◌+◌, ◌*◌, ◌-◌, ◌<◌, ◌/◌, ◌%◌, List, [], ◌∷◌, length, refl, sym, ap, ◌∙◌, arith, suc-mul, zero-mul}
-use Rattle.cel_costs.specs.Sizes.{Size, join}
+use Rattle.std.proofs.Common.{◌≡◌, nat_eq, Bool, true, false, ℕ, suc, zero, ◌+◌, ◌*◌, ◌-◌, ◌<◌, ◌≤◌, ◌/◌, ◌%◌, List, [], ◌∷◌, length, refl, sym, ap, ◌∙◌, arith, suc-mul, zero-mul}
+use Rattle.std.specs.Prelude.{if◌then◌else◌}
+use Rattle.std.proofs.lemmas.Bool.Decides.{nat_tests}
+use Rattle.cel_costs.specs.Sizes.{Size, Flat, Text, Many, Table, join}
+use Rattle.cel_costs.specs.Visits.{is_same, turns_visits}
 use Rattle.cel_ops.specs.declared.operation.Operation.TheVariants as operations
 use Rattle.cel_overload.specs.declared.overload.Overload.TheVariants as overloads
 use Rattle.cel_value.specs.Types.{ValueType}
@@ -75,6 +78,75 @@ module _ (next : Size → Size) (turn : Size → ℕ) where
       let all = still_all n s s' left whole rest rest' some one still e paid in
       omega arith
 
+-- sizes that are tested to be the same are
+both : (b c : Bool) → (if b then c else false) ≡ true → (b ≡ true) × (c ≡ true)
+both true c h = (refl, h)
+both false c h = absurd (let g : false ≡ true = h in cc)
+
+not_true : (b : Bool) → (b ≡ true → ⊥) → b ≡ false
+not_true true h = absurd (h refl)
+not_true false h = refl
+
+nat_same : (n m : ℕ) → nat_eq n m ≡ true → n ≡ m
+nat_same n m h = grind (arith, nat_tests)
+
+nat_self : (n : ℕ) → nat_eq n n ≡ true
+nat_self n = grind (arith, nat_tests)
+
+same_true : (s t : Size) → is_same s t ≡ true → s ≡ t
+same_true Flat Flat h = refl
+same_true Flat (Text m) h = absurd (let g : false ≡ true = h in cc)
+same_true Flat (Many m f) h = absurd (let g : false ≡ true = h in cc)
+same_true Flat (Table m j w) h = absurd (let g : false ≡ true = h in cc)
+same_true (Text n) Flat h = absurd (let g : false ≡ true = h in cc)
+same_true (Text n) (Text m) h = ap Text (nat_same n m h)
+same_true (Text n) (Many m f) h = absurd (let g : false ≡ true = h in cc)
+same_true (Text n) (Table m j w) h = absurd (let g : false ≡ true = h in cc)
+same_true (Many n e) Flat h = absurd (let g : false ≡ true = h in cc)
+same_true (Many n e) (Text m) h = absurd (let g : false ≡ true = h in cc)
+same_true (Many n e) (Many m f) h =
+    let p = both (nat_eq n m) (is_same e f) h in
+    rw (nat_same n m p.0, same_true e f p.1) refl
+same_true (Many n e) (Table m j w) h = absurd (let g : false ≡ true = h in cc)
+same_true (Table n k v) Flat h = absurd (let g : false ≡ true = h in cc)
+same_true (Table n k v) (Text m) h = absurd (let g : false ≡ true = h in cc)
+same_true (Table n k v) (Many m f) h = absurd (let g : false ≡ true = h in cc)
+same_true (Table n k v) (Table m j w) h =
+    let p = both (nat_eq n m) (if is_same k j then is_same v w else false) h in
+    let q = both (is_same k j) (is_same v w) p.1 in
+    rw (nat_same n m p.0, same_true k j q.0, same_true v w q.1) refl
+
+same_self : (s : Size) → is_same s s ≡ true
+same_self Flat = refl
+same_self (Text n) = nat_self n
+same_self (Many n e) = rw (nat_self n) (same_self e)
+same_self (Table n k v) = rw (nat_self n, same_self k) (same_self v)
+
+-- the visits of turns, up to the first that gathers nothing more
+module _ (next : Size → Size) (look : Size → ℕ) where
+  visits_turn : (n : ℕ) (s s' : Size) (b : Bool) → 0 < n → s' ≡ join s (next s) → is_same s' s ≡ b
+      → turns_visits next look n s ≡ look s + (if b then 0 else turns_visits next look (n - 1) s')
+  visits_turn zero s s' b some one same = absurd (omega arith)
+  visits_turn (suc n) s s' b some one same =
+      rw (← same, one) (ap (λ k. look s + (if is_same (join s (next s)) s then 0
+      else turns_visits next look k (join s (next s)))) (less n))
+
+  pub visits_next : (n : ℕ) (s s' : Size) (visits whole rest rest' : ℕ) → 0 < n → s' ≡ join s (next s)
+      → (s' ≡ s → ⊥) → visits + turns_visits next look n s ≡ whole + rest → rest ≡ look s + rest'
+      → visits + turns_visits next look (n - 1) s' ≡ whole + rest'
+  visits_next n s s' visits whole rest rest' some one other e paid =
+      let all : turns_visits next look n s ≡ look s + turns_visits next look (n - 1) s' =
+      visits_turn n s s' false some one (not_true _ (λ h. other (same_true s' s h))) in
+      omega arith
+
+  pub visits_still : (n : ℕ) (s s' : Size) (visits whole rest rest' : ℕ) → 0 < n → s' ≡ join s (next s)
+      → s' ≡ s → visits + turns_visits next look n s ≡ whole + rest → rest ≡ look s + rest'
+      → visits ≡ whole + rest'
+  visits_still n s s' visits whole rest rest' some one still e paid =
+      let all : turns_visits next look n s ≡ look s + 0 =
+      visits_turn n s s' true some one (rw still (same_self s)) in
+      omega arith
+
 -- what is a key is a value of what stands before it
 pub keys_of_more : (s : Size) (ss : List Size) → keys_of (s ∷ ss) ≡ s ∷ values_of ss
 keys_of_more s [] = refl
@@ -90,12 +162,3 @@ pub key_count_fact : (ss : List Size) → length (keys_of ss) ≡ length ss / 2 
 key_count_fact [] = refl
 key_count_fact (k ∷ []) = refl
 key_count_fact (k ∷ v ∷ ss) = let more = key_count_fact ss in omega arith
-
--- counting takes nothing but of one operand
-pub no_count : (ts : List ValueType) (ss : List Size) → (length ss ≡ 1 → ⊥)
-    → charge_at (overloads.Operate operations.Size) ts ss ≡ 1
-no_count [] ss h = refl
-no_count (t ∷ []) [] h = refl
-no_count (t ∷ []) (s ∷ []) h = absurd (h refl)
-no_count (t ∷ []) (s ∷ u ∷ us) h = refl
-no_count (t ∷ j ∷ ts) ss h = refl

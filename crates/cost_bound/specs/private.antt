@@ -2,6 +2,4 @@
 pub mod Numbers
 pub mod SizeView
 pub mod ScopeView
-pub mod Formulas
-pub mod Memos
 pub mod Measuring

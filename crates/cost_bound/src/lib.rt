@@ -2,28 +2,17 @@
 #![tactic(auto)]
 
 mod bounding;
-mod call_forms;
+mod budget;
 mod charges;
-mod form;
-mod formula;
 mod known;
-mod list_forms;
-mod loops;
 mod made;
-mod maxima;
 mod measure;
 mod measured;
 mod measuring;
-mod memo;
-mod numbers;
-mod remembered;
 mod scope;
-mod seen;
-mod shape;
 mod size;
-mod steady;
-mod survey;
-mod term;
 mod variables;
+mod visits;
 
 pub use bounding::bound;
+pub use budget::{Budget, MOST_STEPS, MOST_VISITS, USUAL_STEPS, USUAL_VISITS};

@@ -1,7 +1,6 @@
 //! What expressions are measured by.
 
-use crate::memo::Memo;
-use crate::scope::Scope;
+use crate::size::ValueSize;
 use crate::variables::VariableSizes;
 use attributes::Limits;
 
@@ -9,20 +8,12 @@ use attributes::Limits;
 #[derive(Clone, Copy)]
 pub(crate) struct Measuring<'s> {
     pub(crate) limits: &'s Limits,
-    pub(crate) scope: &'s Scope<'s>,
+    pub(crate) locals: &'s [&'s ValueSize],
 }
 
-/// The memos of a loop's condition and step. They hold in each turn.
-#[derive(Drop)]
-pub(crate) struct TurnMemos {
-    pub(crate) condition: Memo,
-    pub(crate) step: Memo,
-}
-
-/// The turns of a loop: what surrounds it, the sizes of its variables, and the memos.
+/// The turns of a loop: what surrounds it, and the sizes of its variables.
 #[derive(Clone, Copy)]
 pub(crate) struct Turns<'s> {
     pub(crate) around: Measuring<'s>,
     pub(crate) each: &'s VariableSizes,
-    pub(crate) memos: &'s TurnMemos,
 }

@@ -4,9 +4,6 @@ use Rattle.cel_costs.proofs.Reached.{placed, placed_within}
 use Rattle.cel_costs.proofs.Within.{answer_within}
 use Rattle.cost_bound.proofs.bounding.bound.Goals as goal
 
-pub measure-requires-clause-holds : goal.measure-requires-clause-holds
-measure-requires-clause-holds c = c.in_ok-memo.ensures _
-
 pub returns-clause-within : goal.returns-clause-within
 returns-clause-within c = λ r a g sound fits is.
     answer_within (typed_view c.args.typed.now) [] g r sound c.args.limits.now fits [] [] tt a is
