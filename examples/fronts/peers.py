@@ -65,9 +65,9 @@ def free_port():
             return port
 
 
-def until(is_so):
+def until(is_so, patience=PATIENCE):
     """Waits until it is so; False if that takes too long."""
-    end = time.monotonic() + PATIENCE
+    end = time.monotonic() + patience
     while not is_so():
         if time.monotonic() > end:
             return False
@@ -113,6 +113,10 @@ class Authoriser:
         until(lambda: lines.append((self.folder / "access.log").read_text()) or len(lines) > 1 and lines[-1] == lines[-2])
         last = json.loads(lines[-1].splitlines()[-1])
         return [last["target"], last["host"]]
+
+    def judged(self):
+        """The lines of the access log that are whole."""
+        return [json.loads(line) for line in (self.folder / "access.log").read_text().splitlines(True) if line.endswith("\n")]
 
     def straight(self, fields):
         """The status of a request at its own socket, with these fields."""

@@ -1,10 +1,30 @@
 -- Asks rbacd about a request, with its method, target and fields. txn.rbacd becomes the status of the answer, or 0 if there is none.
 local ADDRESS = "unix@/run/rbacd/rbacd.sock"
 local SECONDS = 1
+
+local function set_of(names)
+  local set = {}
+  for name in names:gmatch("%S+") do
+    set[name] = true
+  end
+  return set
+end
+
 -- fields about the connection or the body, which rbacd does not get
-local LEFT_OUT = {}
-for name in ("connection content-length expect keep-alive proxy-connection te trailer transfer-encoding upgrade"):gmatch("%S+") do
-  LEFT_OUT[name] = true
+local LEFT_OUT = set_of("connection content-length expect transfer-encoding")
+-- fields that stay, also if Connection lists them: HAProxy reads them itself
+local KEPT = set_of("connection content-length host transfer-encoding upgrade")
+
+-- Drops the fields that Connection lists: they are of one connection alone (RFC 9110, 7.6.1).
+local function drop_listed(txn)
+  local values = txn.http:req_get_headers()["connection"] or {}
+  for _, value in pairs(values) do
+    for name in value:lower():gmatch("[^%s,]+") do
+      if not KEPT[name] then
+        txn.http:req_del_header(name)
+      end
+    end
+  end
 end
 
 local function head(txn)
@@ -27,6 +47,7 @@ local function status(text)
   return tonumber((line or ""):match("^HTTP/1%.1 (%d%d%d) ") or 0)
 end
 
+core.register_action("drop_listed", {"http-req"}, drop_listed, 0)
 core.register_action("rbacd", {"http-req"}, function(txn)
   txn:set_var("txn.rbacd", status(head(txn)))
 end, 0)

@@ -29,6 +29,10 @@ async def refuses_words(trial):
              "bridge: error: argument --most: 0 is no whole number from 1 to 100000"),
             (["--listen", "127.0.0.1:0", "--control", "h:1", "--tls-key", "f"],
              "bridge: error: --tls-cert and --tls-key need one another"),
+            (["--listen", "127.0.0.1:0", "--control", "h:1", "--tls-name", "control.example"],
+             "bridge: error: --tls-name has no meaning without TLS: it needs --tls, --tls-ca or --tls-cert"),
+            (["--listen", "127.0.0.1:0", "--control", "h:1", "--first-message", "0"],
+             "bridge: error: argument --first-message: 0 is no whole number from 1 to 3600"),
             (["--listen", "127.0.0.1:0", "--control", "h:1", "--tls-ca", "/none"], "bridge: cannot read /none: No such file or directory")):
         trial.same(words, said(*words), (2, line))
     with socket.create_server(("127.0.0.1", 0)) as taken:

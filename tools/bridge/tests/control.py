@@ -50,6 +50,8 @@ class Served:
 class Control:
     """The server; each new stream is in `arrived`."""
 
+    REFUSED = grpc.StatusCode.PERMISSION_DENIED
+
     def __init__(self):
         self.arrived, self.server, self.port = asyncio.Queue(), None, 0
 

@@ -11,8 +11,6 @@ HERE = pathlib.Path(__file__).resolve().parent
 BRIDGE = HERE.parent / "bridge"
 
 
-
-
 class Bridge:
     """The program, and what it says."""
 
@@ -20,10 +18,11 @@ class Bridge:
         self.process, self.place, self.lines = process, place, []
 
     @classmethod
-    async def start(cls, place, control, *words):
+    async def start(cls, place, control, *words, before=()):
+        """Starts it, by the words of a program that comes before it, once it listens."""
         if isinstance(control, int):
             control = f"127.0.0.1:{control}"
-        process = await asyncio.create_subprocess_exec(BRIDGE, "--listen", place, "--control", control, *words,
+        process = await asyncio.create_subprocess_exec(*before, BRIDGE, "--listen", place, "--control", control, *words,
                                                        stderr=asyncio.subprocess.PIPE)
         it = cls(process, place)
         it.lines.append((await asyncio.wait_for(process.stderr.readline(), 10)).decode())
@@ -42,6 +41,11 @@ class Bridge:
                     return line.strip()
             await asyncio.sleep(0.1)
         return "".join(self.lines)
+
+    def memory(self):
+        """MiB that it takes, at most until now."""
+        with open(f"/proc/{self.process.pid}/status") as file:
+            return next(int(line.split()[1]) for line in file if line.startswith("VmHWM")) // 1024
 
     async def end(self):
         """Its status after SIGTERM."""

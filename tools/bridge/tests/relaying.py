@@ -167,7 +167,7 @@ async def serves_many(trial):
     await asyncio.wait_for(streams["7"].gone.wait(), 10)
     await streams["8"].send(response("2", "n"))
     trial.same("one that ends ends no other", await proxies[8].next(), response("2", "n").SerializeToString())
-    trial.same("its memory in MiB is below", int((await memory(bridge)) / 1024) < 400, True)
+    trial.same("its memory in MiB", bridge.memory(), None, below=400)
     await control.stop()
     trial.same("streams that are left", sum([await proxy.next() is not None for proxy in proxies]), 0)
     await control.start(control.port)
@@ -179,24 +179,4 @@ async def serves_many(trial):
     trial.same("streams that are left", sum([await proxy.next() is not None for proxy in proxies]), 0)
 
 
-async def memory(bridge):
-    """KiB that the bridge takes."""
-    with open(f"/proc/{bridge.process.pid}/status") as file:
-        return next(int(line.split()[1]) for line in file if line.startswith("VmRSS"))
-
-
-async def bounds_proxies(trial):
-    """No more proxies than --most; the next one gets in once one has left."""
-    control, bridge, proxy, _ = await joined(trial, "--most", "1")
-    more = await bridge.connect()
-    trial.same("one more", await more.next(), None)
-    trial.same("said", await bridge.says("further"), "bridge: 1 proxies are connected; further ones are closed")
-    proxy.close()
-    await bridge.says("proxy 1: closed")
-    more = await bridge.connect()
-    await more.send(FIRST)
-    trial.same("after one has left", await (await control.next()).next(), FIRST)
-
-
-TESTS = [relays_messages, relays_extensions, relays_pieces, relays_the_longest, refuses_frames, ends_with_the_control_plane, serves_many,
-         bounds_proxies]
+TESTS = [relays_messages, relays_extensions, relays_pieces, relays_the_longest, refuses_frames, ends_with_the_control_plane, serves_many]
