@@ -81,7 +81,7 @@ enum {
   VUPRESAL_MEMORY = 19,            /* memory ran out */
   VUPRESAL_OUT_OF_STEPS = 20,      /* a condition took more steps than its bound; for no request, which is proved */
   VUPRESAL_EMPTY = -1,             /* the handle is empty */
-  VUPRESAL_OUT_OF_RANGE = -2,      /* limits, a budget or settings are out of their ranges */
+  VUPRESAL_OUT_OF_RANGE = -2,      /* limits, a budget, settings, or a port, an address or a protocol are out of their ranges */
   VUPRESAL_BAD_REQUEST = 400,      /* the head, a part of the request or a text of the facts is malformed */
   VUPRESAL_OUTSIDE_LIMITS = 431,   /* the request is outside the limits */
   VUPRESAL_TRANSFER_CODING = 501   /* the request has a Transfer-Encoding field, so its body cannot be skipped */
@@ -112,7 +112,7 @@ static inline const char *vupresal_status_text(int32_t status) {
     case VUPRESAL_MEMORY: return "memory ran out";
     case VUPRESAL_OUT_OF_STEPS: return "a condition took more steps than its bound";
     case VUPRESAL_EMPTY: return "the handle is empty";
-    case VUPRESAL_OUT_OF_RANGE: return "limits, a budget or settings are out of their ranges";
+    case VUPRESAL_OUT_OF_RANGE: return "limits, a budget, settings, a port, an address or a protocol are out of their ranges";
     case VUPRESAL_BAD_REQUEST: return "the request or a text of its facts is malformed";
     case VUPRESAL_OUTSIDE_LIMITS: return "the request is outside the limits";
     case VUPRESAL_TRANSFER_CODING: return "the request has a Transfer-Encoding field";
@@ -134,8 +134,8 @@ typedef struct vupresal_text {
   bool is_there;
 } vupresal_text;
 
-/* The limits of the requests that a filter is asked for. All 0 are the greatest. Otherwise each is from 1 to the number beside it.
-   A smaller limit makes the bounds of conditions smaller. A request outside the limits has the status 431, and no decision. */
+/* The limits of the requests that a filter is asked for. All six 0 are the greatest. Otherwise each is from 1 to the number beside
+   it. A smaller limit makes the bounds of conditions smaller. A request outside the limits has the status 431, and no decision. */
 typedef struct vupresal_bounds {
   size_t fields; /* 64: the number of field lines, and 3 for the method, the path and the scheme */
   size_t name;   /* 128: the bytes of a field's name */
@@ -143,17 +143,22 @@ typedef struct vupresal_bounds {
   size_t method; /* 32: the bytes of the method */
   size_t target; /* 4096: the bytes of the target */
   size_t text;   /* 1024: the bytes of any other text, as of the facts */
+  /* The most visits that the measuring of a filter's conditions may take together: 1 to 2^63 - 1, or 0 for 4194304. */
+  uint64_t visits;
 } vupresal_bounds;
 
-/* The facts of a connection. A rule on an absent fact does not match, and a condition that reads one is an error. */
+/* The facts of a connection. A rule on an absent fact does not match, and a condition that reads one is an error. A port above
+   65535, or an address of another length than 0, 4 and 16, has the status VUPRESAL_OUT_OF_RANGE.
+   The library puts two facts into one form: A to Z in requested_server_name are lowered, and an address ::ffff:a.b.c.d is a.b.c.d. The
+   texts source_address and destination_address stay as they are given: write such an address in them as one of IPv4. */
 typedef struct vupresal_facts {
   vupresal_bytes scheme;                                                               /* request.scheme: "http" or "https" */
   vupresal_text source_address, destination_address;                                   /* as Envoy has it: "127.0.0.1:57684" */
   vupresal_text requested_server_name;                                                 /* of TLS (SNI) */
   vupresal_text tls_version;                                                           /* as "TLSv1.3" */
   vupresal_text subject_peer_certificate, dns_san_peer_certificate, uri_san_peer_certificate;
-  vupresal_bytes direct_remote_ip, remote_ip, destination_ip;                          /* 4 or 16 bytes in network order; else absent */
-  int32_t source_port, destination_port;                                               /* 0 to 65535; else absent */
+  vupresal_bytes direct_remote_ip, remote_ip, destination_ip;                          /* 4 or 16 bytes in network order; none: absent */
+  int32_t source_port, destination_port;                                               /* 0 to 65535; below 0: absent */
   int32_t mtls;                                                                        /* 1: mutual TLS, 0: none; below 0: absent */
   uint64_t connection_id;                                                              /* if has_connection_id */
   bool has_connection_id;
@@ -186,6 +191,13 @@ typedef struct vupresal_line {
   vupresal_bytes name, value;
 } vupresal_line;
 
+/* The protocols of requests: vupresal_request.protocol. */
+enum {
+  VUPRESAL_HTTP_1 = 0, /* HTTP/1.1 or HTTP/1.0, as is_http11 says */
+  VUPRESAL_HTTP_2 = 2,
+  VUPRESAL_HTTP_3 = 3
+};
+
 /* A request by its parts: what a proxy has once it read a head of HTTP/1, or the field section of HTTP/2 or 3.
    The host is a line of the name `host` or `:authority`; both with one value count once. No other pseudo-header is a line.
    Join the cookie lines of HTTP/2 to one by "; " before (RFC 9113, section 8.2.3); other lines of one name are joined by commas. */
@@ -194,7 +206,8 @@ typedef struct vupresal_request {
   vupresal_bytes target;      /* the path and query to judge, beginning with a slash: `:path` of HTTP/2 */
   const vupresal_line *lines; /* in the order of the request; may be null if there are none */
   size_t line_count;
-  bool is_http11;             /* true for HTTP/1.1 and later versions, false for HTTP/1.0 */
+  bool is_http11;             /* true for HTTP/1.1, false for HTTP/1.0; of no effect for later protocols */
+  uint64_t protocol;          /* request.protocol: VUPRESAL_HTTP_2, VUPRESAL_HTTP_3, or 0 for HTTP/1 */
 } vupresal_request;
 
 /* A decision. */
@@ -219,18 +232,18 @@ typedef struct vupresal_filter {
  * place     room for the place of a refusal, as UTF-8 with a zero at the end: `policy "p": permissions[0].header.name`. It is cut
  *           to the room, between characters. It is empty if no part can be named, and after an admission. Null and 0 for none.
  *
- * Status: VUPRESAL_OK; 1 to 15 if the message is refused; VUPRESAL_MEMORY; VUPRESAL_OUT_OF_RANGE for limits or a budget out of
- * range. After any but VUPRESAL_OK the handle holds what it held. 256 policies take some 0.3 ms, and with a condition in each some
- * 2.4 ms. */
+ * Status: VUPRESAL_OK; 1 to 15 if the message is refused; VUPRESAL_MEMORY; VUPRESAL_OUT_OF_RANGE for limits, visits or a budget
+ * out of range. After any but VUPRESAL_OK the handle holds what it held. 256 policies take some 0.3 ms, and with a condition in
+ * each some 2.4 ms. */
 int32_t vupresal_filter_admit(vupresal_filter *filter, const uint8_t *message, size_t length, const vupresal_bounds *bounds,
                               uint64_t budget, uint8_t *place, size_t room);
 
 /* Decides on one request, by its parts.
  *
  * Status: VUPRESAL_OK, with the decision; VUPRESAL_BAD_REQUEST if a head of HTTP/1 could not have these parts (as a value with a
- * line end, a name that is no token, two hosts, or none in HTTP/1.1), a text is not UTF-8, or a text of the facts has more than
- * 65,536 bytes, of which none is then read; VUPRESAL_OUTSIDE_LIMITS; VUPRESAL_TRANSFER_CODING; VUPRESAL_MEMORY; VUPRESAL_EMPTY.
- * The filter stays as it was.
+ * line end, a name that is no token, two hosts, or none except in HTTP/1.0), a text is not UTF-8, or a text of the facts has more
+ * than 65,536 bytes, of which none is then read; VUPRESAL_OUTSIDE_LIMITS; VUPRESAL_TRANSFER_CODING; VUPRESAL_OUT_OF_RANGE for a port,
+ * an address or a protocol; VUPRESAL_MEMORY; VUPRESAL_EMPTY. The filter stays as it was.
  *
  * No part is read, and the status is VUPRESAL_OUTSIDE_LIMITS, if the method, the target or a name has more bytes than its limit, if
  * there are more lines than the limit of fields, or if a value has more than 65,536 bytes. White space at the ends of a value does not
@@ -318,7 +331,7 @@ int32_t vupresal_proxy_ads_lost(vupresal_proxy *proxy, vupresal_given *given);
 /* A connection opens with these facts, delivers bytes, or is closed by its client. Connections are 0 to 7; bytes on one that is not
  * open give nothing, and so does any other number.
  * Status: as above; of vupresal_proxy_http_open also VUPRESAL_BAD_REQUEST, for a text of the facts that is not UTF-8 or has more than
- * 65,536 bytes. */
+ * 65,536 bytes, and VUPRESAL_OUT_OF_RANGE for a port or an address. */
 int32_t vupresal_proxy_http_open(vupresal_proxy *proxy, uint64_t number, const vupresal_facts *facts, vupresal_given *given);
 int32_t vupresal_proxy_http_bytes(vupresal_proxy *proxy, uint64_t number, const uint8_t *bytes, size_t length,
                                   vupresal_given *given);

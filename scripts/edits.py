@@ -1,5 +1,7 @@
 """Edits: wrong code that the prover has to refuse, in crates/NAME/must-fail, crates/NAME/edits and tests/NAME/edits."""
 import concurrent.futures
+import functools
+import hashlib
 import os
 import pathlib
 import re
@@ -13,13 +15,23 @@ DECLARES = r"(?m)^(?:pub(?:\([a-z]+\))? )?(?:struct|enum|type|trait) {}\b"
 UNREAD = re.compile(r"is not in scope|has no field|is no name|operand is missing|expected the end|cannot continue")
 NAMED = re.compile(r"(?:\./)?proofs/.*(has no field|is not in scope|has no `|was not admitted)")
 ONLY_A_NAME = " (only by a proof file that names what the edit took away)"
+# a path's first word, in code and in a clause or a definition; what follows `use` or `mod`; names that no file declares
+HEAD_OF_PATH = re.compile(r"(?<![\w:.])(?:::)?([a-z_]\w*)::")
+LIBRARY = re.compile(r"\bRattle\.(\w+)\.")
+DECLARED = re.compile(r"(?m)^ *(?:pub(?:\([a-z]+\))? )?(?:use (?:\w+::)?|mod )([^;]*);")
+BUILT_IN = set("crate self super std core bool char str u8 u16 u32 u64 usize i8 i16 i32 i64 isize".split())
+
+
+@functools.cache
+def libraries():
+    """Each crate of the repository and the crates that it uses, those of the kit too."""
+    lines = [line.split("#")[0] for line in (TOP / "crates.txt").read_text().splitlines()]
+    return {line.split(":")[0].split()[0]: line.split(":")[1].split() for line in lines if ":" in line}
 
 
 def crates():
-    """Each crate of the repository and those of the repository that it names."""
-    lines = [line.split("#")[0] for line in (TOP / "crates.txt").read_text().splitlines()]
-    named = {line.split(":")[0].split()[0]: line.split(":")[1].split() for line in lines if ":" in line}
-    return {name: [it for it in below if it in named] for name, below in named.items()}
+    """Each crate of the repository and those of the repository that it uses."""
+    return {name: [it for it in below if it in libraries()] for name, below in libraries().items()}
 
 
 def closure(name, below):
@@ -61,14 +73,26 @@ class Edit:
         """Why the edit cannot be tried, if it cannot."""
         if self.unread:
             return f"a line begins with none of 'file: ', 'old: ', 'new:' and 'only: ': {self.unread[:60]}"
-        return self.unfit or (self.lacks_test() if self.crate == TOP / "crates" else None)
+        return self.unfit or self.lacks_crate() or (self.lacks_test() if self.crate == TOP / "crates" else None)
+
+    def lacks_crate(self):
+        """Which crate the edit uses though its own does not, if there is one: such code is refused for a name."""
+        texts = {}
+        self.apply(texts)
+        for file, old, new in self.pairs:
+            own = self.crate.name if self.crate != TOP / "crates" else file.split("/")[0]
+            known = {own, *libraries().get(own, ())}
+            declared = {word for it in DECLARED.findall(texts[file]) for word in re.findall(r"\w+", it)}
+            heads = set(HEAD_OF_PATH.findall(new)) - set(HEAD_OF_PATH.findall(old)) - BUILT_IN - declared
+            wrong = sorted((heads | set(LIBRARY.findall(new)) - {"std"}) - known)
+            if wrong:
+                return f"it uses {wrong[0]}, which the line of {own} in crates.txt does not name"
+        return None
 
     def lacks_test(self):
         """Whether the test that an edit of tests/ has to fail is not there."""
-        module, _, test = (self.fails or "").rpartition("::")
-        file = self.path.parent.parent / f"{module.replace('::', '/') or 'lib'}.rt.text"
-        is_there = file.is_file() and re.search(rf"#\[test\]\s+(?:pub )?fn {test}\b", file.read_text())
-        return None if self.fails and is_there else f"there is no test {self.fails}"
+        is_there = self.fails and has_test(self.path.parent.parent, self.fails)
+        return None if is_there else f"there is no test {self.fails}"
 
     def apply(self, texts):
         """Changes the texts by file, each pair after those before it, or says why the edit does not apply."""
@@ -82,8 +106,31 @@ class Edit:
         return None
 
 
+def has_test(folder, path):
+    """Whether a folder of tests/ has the test of this path, such as `cases::any_any`."""
+    *modules, test = path.split("::")
+    file = folder / f"{'/'.join(modules) or 'lib'}.rt.text"
+    return file.is_file() and bool(re.search(rf"#\[test\]\s+(?:pub )?fn {test}\b", file.read_text()))
+
+
+def sum_of(crate):
+    """A sum of the files that a crate's proofs are made of: those of src/, specs/ and proofs/. What is in the crates below is not in it."""
+    files = sorted(it for kind in ("src", "specs", "proofs") for it in (crate / kind).rglob("*") if it.is_file())
+    made = hashlib.sha256()
+    for it in files:
+        made.update(f"{it.relative_to(crate)} {it.stat().st_size}\n".encode() + it.read_bytes())
+    return made.hexdigest()
+
+
 def function_around(path, old):
     """The file, the name and the type of the function in whose body the text is, as rt fmt lays functions out."""
+    lines = path.read_text().split("\n")
+    span = lines_around(path, old)
+    return span and (path, re.match(HEAD, lines[span[0]])[1], type_around(lines, span[0]))
+
+
+def lines_around(path, old):
+    """The first and the last line, from 0, of the function in whose body the text is."""
     text = path.read_text()
     lines = text.split("\n")
     first = text[: text.find(old)].count("\n") if old in text else 0
@@ -94,7 +141,7 @@ def function_around(path, old):
     opened = next((at for at in range(start, len(lines)) if lines[at] == indent + "{" or
                    lines[at].endswith(" {") and not re.match(r" *(ensures|requires)", lines[at])), len(lines))
     closed = next((at for at in range(opened, len(lines)) if lines[at] == indent + "}"), 0)
-    return (path, re.match(HEAD, lines[start])[1], type_around(lines, start)) if opened < first < closed else None
+    return (start, closed) if opened < first < closed else None
 
 
 def type_around(lines, start):
@@ -186,8 +233,14 @@ def verdicts(edit, said):
 
 
 def is_refused(verdict):
-    """Whether a function's goals were tried and one was not proved, be it by what its proof says or by the search alone."""
-    return verdict.endswith(": not proved") or ": no proof: expected " in verdict
+    """Whether a function's goals were tried and one was not proved, be it by what its proof says, by the search alone, or by a proof of
+    the whole function by hand."""
+    return bool(re.search(r": (not proved(; the borrow checker does not cover this function yet: .*)?|no proof: expected .*)$", verdict))
+
+
+def waits(verdict):
+    """Whether a function was not looked at, since one that it calls is not proved."""
+    return not verdict.endswith(": proved") and not is_refused(verdict)
 
 
 def height(name, below):

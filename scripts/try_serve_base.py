@@ -9,9 +9,13 @@ import subprocess
 import time
 
 from loopback import free_port, heard, listens
-from replays import ANY_ANY, field, number, request, resource, response
+from replays import ANY_ANY, allowed, denied, field, number, request, resource, response
 
+TOP = pathlib.Path(__file__).resolve().parent.parent
 F = [b"f"]
+# a configuration with two filters, and their names
+TWO = json.loads((TOP / "examples/serve_two.json").read_text())["proxy"]
+DENY, ALLOW = BOTH = [it["name"].encode() for it in TWO["filters"]]
 ANY = b"\x18\x01"
 CLOCK = os.sysconf("SC_CLK_TCK")
 PAGE = os.sysconf("SC_PAGE_SIZE")
@@ -22,6 +26,12 @@ FREES = {**os.environ, "ASAN_OPTIONS": "quarantine_size_mb=1:thread_local_quaran
 def filter_of(policy):
     """A filter that lets through what its one policy `p` matches."""
     return field(1, field(2, field(1, b"p") + field(2, policy)))
+
+
+def filter_with(denies=False, **policies):
+    """A filter with these policies by name, which denies or lets through what one of them matches."""
+    entries = b"".join(field(2, field(1, name.encode()) + field(2, it)) for name, it in policies.items())
+    return field(1, (b"\x08\x01" if denies else b"") + entries)
 
 
 def policy(permission=ANY, principal=ANY, condition=b""):
@@ -48,6 +58,18 @@ def whole(value):
 def text(value):
     """The constant of a text."""
     return field(6, value)
+
+
+def method_is(name):
+    """A policy that matches the requests of one method."""
+    return policy(permission=field(4, field(1, b":method") + field(4, name)))
+
+
+# filters for `TWO`: the first denies POST; the second lets GET through by a condition, and PUT
+NO_POST = filter_with(denies=True, posts=method_is(b"POST"))
+GET_AND_PUT = filter_with(gets=policy(condition=equals(b"request", b"method", text(b"GET"))), puts=method_is(b"PUT"))
+# and what they answer
+GET_YES, PUT_YES, POST_NO, DELETE_NO = allowed(b"-,0", 1), allowed(b"-,1", 1), denied(b"0", 1), denied(b"-,-", 1)
 
 
 class Case:
@@ -82,18 +104,25 @@ class Case:
         """A control plane of the case's own, over TCP or at the path of a Unix socket."""
         return Plane(self, path)
 
-    def serve(self, control, descriptors=None, errors=None, **settings):
-        """A server that serves, perhaps with few descriptors or with standard error of the case's own. Settings of None are left
-        out."""
-        return Server(self, control, descriptors, errors, settings)
+    def serve(self, control, limit=None, errors=None, **settings):
+        """A server that serves, perhaps with a limit of `prlimit` or with standard error of the case's own. Settings of None are
+        left out."""
+        return Server(self, control, limit, errors, settings)
 
     def ready(self, content=ANY_ANY, **settings):
         """A server that has accepted a filter, with its control plane and the update stream."""
+        return self.accepted(F, [content], settings)
+
+    def ready_both(self, first=NO_POST, second=GET_AND_PUT, **settings):
+        """The same with two filters."""
+        return self.accepted(BOTH, [first, second], {"proxy": TWO, **settings})
+
+    def accepted(self, names, contents, settings):
         plane = self.plane()
         server = self.serve(plane.address, **settings)
         stream = plane.accept()
-        self.same("the first request", stream.frame(), request(F, node=True))
-        self.same("its acknowledgement", stream.give(b"1", content), request(F, b"1", b"n1"))
+        self.same("the first request", stream.frame(), request(names, node=True))
+        self.same("its acknowledgement", stream.give(b"1", *contents, names=names), request(names, b"1", b"n1"))
         return server, plane, stream
 
     def run(self, *words, given=b""):
@@ -176,7 +205,7 @@ def timed_out(peer):
 class Server:
     """`rbacd serve` as a process."""
 
-    def __init__(self, case, control, descriptors, errors, settings):
+    def __init__(self, case, control, limit, errors, settings):
         self.case = case
         self.port, self.admin = free_port(), free_port()
         proxy = {"node": "n", "cluster": "c", "filters": [{"name": "f"}]}
@@ -188,10 +217,12 @@ class Server:
         case.config("serve.json", value)
         case.config("proxy.json", value["proxy"])
         self.errors = case.folder / "errors"
-        limit = ["prlimit", f"--nofile={descriptors}:{descriptors}"] if descriptors else []
+        limited = ["prlimit", limit] if limit else []
+        # a server with a limit ignores SIGXFSZ, as Python does: a write to a file that is too long fails
         with self.errors.open("ab") as own:
-            self.process = subprocess.Popen([*limit, case.program, "serve", "--config", "serve.json"], cwd=case.folder, env=FREES,
-                                            stdin=subprocess.PIPE, stdout=subprocess.PIPE, stderr=errors or own)
+            self.process = subprocess.Popen([*limited, case.program, "serve", "--config", "serve.json"], cwd=case.folder, env=FREES,
+                                            stdin=subprocess.PIPE, stdout=subprocess.PIPE, stderr=errors or own,
+                                            restore_signals=not limit)
         case.ends.callback(self.stop)
         for address in value["listen"] if isinstance(value["listen"], list) else [value["listen"]]:
             place = address.rsplit(":", 1)[1]

@@ -1,4 +1,4 @@
-"""What a server tells of itself: the admin port, the log of decisions, and the record, which a replay judges again."""
+"""What a server tells of itself: the admin port, the metrics, and the logs."""
 import contextlib
 import json
 import os
@@ -9,31 +9,42 @@ import subprocess
 import time
 
 from loopback import heard
-from replays import ANY_ANY, METHOD_IS_GET, NO_POLICY, PLAIN, TOO_LARGE, UNREADY, allowed, answer, denied, field, long_head, told
-from try_serve_base import REFUSED, policy
+from replays import ANY_ANY, METHOD_IS_GET, NO_POLICY, PLAIN, TOO_LARGE, allowed, denied, field, long_head, told
+from try_serve_base import ALLOW, BOTH, DELETE_NO, DENY, GET_AND_PUT, GET_YES, NO_POST, POST_NO, PUT_YES, REFUSED, TWO, policy
 
-POST = PLAIN.replace(b"GET", b"POST")
+POST, PUT, DELETE = (PLAIN.replace(b"GET", name) for name in (b"POST", b"PUT", b"DELETE"))
+MATCH = re.compile(r'rbacd_matches_total\{filter="(\w+)",policy="(\w+)"\}')
 TIME = re.compile(r"\d{4}-\d\d-\d\dT\d\d:\d\d:\d\d(\.\d+)?Z")
 
 
+def filters(server):
+    """The filters of `/config`: name, budget, and the version, the bound and the names of the policies."""
+    found = json.loads(server.fetch("/config")[1])["filters"]
+    return [(it["name"], it["budget"], (it["policies"]["version"], it["policies"]["bound"], it["policies"]["names"])
+             if it["policies"] else None) for it in found]
+
+
 def admin(case):
-    """The paths of the admin port."""
+    """The paths of the admin port, with two filters."""
     plane = case.plane()
-    server = case.serve(plane.address)
+    server = case.serve(plane.address, proxy=TWO)
     stream = plane.accept()
     stream.frame()
     case.same("/healthz", server.fetch("/healthz")[0], 200)
-    case.same("/ready before", server.fetch("/ready")[0], 503)
-    stream.give(b"v1", METHOD_IS_GET)
-    case.same("/ready", server.fetch("/ready")[0], 200)
-    stream.give(b"v2", REFUSED)
+    case.same("/ready before", server.fetch("/ready"), (503, b"no policies yet: deny\nno policies yet: allow\n"))
+    stream.give(b"v1", GET_AND_PUT, names=[ALLOW])
+    case.same("/ready with one", server.fetch("/ready"), (503, b"no policies yet: deny\n"))
+    case.same("/config with one", filters(server), [("deny", 1_000_000, None), ("allow", 50_000, ("v1", 40, ["gets", "puts"]))])
+    stream.give(b"v2", NO_POST, names=[DENY])
+    case.same("/ready", server.fetch("/ready"), (200, b"ready\n"))
+    stream.give(b"v3", NO_POST, REFUSED, names=BOTH)
     status, body = server.fetch("/config")
     value = json.loads(body)
-    case.same("/config", (status, value["generation"], value["version"]), (200, 1, "v1"))
-    found = [(it["name"], it["budget"], it["policies"]["bound"], it["policies"]["names"]) for it in value["filters"]]
-    case.same("a filter", found, [("f", 1_000_000, 40, ["p"])])
-    case.same("the last refusal", (value["refusal"]["version"], value["refusal"]["number"], value["refusal"]["name"]),
-              ("v2", 3, "UnknownField"))
+    case.same("/config", (status, value["generation"], value["version"]), (200, 2, "v2"))
+    case.same("both filters", filters(server),
+              [("deny", 1_000_000, ("v2", 0, ["posts"])), ("allow", 50_000, ("v1", 40, ["gets", "puts"]))])
+    case.same("the last refusal", [value["refusal"][it] for it in ("version", "number", "name", "filter")],
+              ["v3", 3, "UnknownField", "allow"])
     case.same("an unknown path", server.fetch("/x")[0], 404)
     for path, method in (("/drain", "GET"), ("/reopen", "GET"), ("/metrics", "POST"), ("/config", "DELETE")):
         case.same(f"{method} {path}", server.fetch(path, method)[0], 405)
@@ -45,7 +56,7 @@ def admin(case):
     case.same("a foreign host drains nothing", server.fetch("/drain", "POST", host="evil.example")[0], 403)
     case.same("a foreign page drains nothing", server.fetch("/drain", "POST", Origin="http://evil.example")[0], 403)
     case.same("nor a file", server.fetch("/drain", "POST", Origin="null")[0], 403)
-    server.answers("it serves on", [(PLAIN, allowed(b"0", 1))])
+    server.answers("it serves on", [(PLAIN, allowed(b"-,0", 2))])
     status, body = server.fetch("/")
     case.same("the page", (status, b"http://" in body.replace(b"http://www.w3.org", b""), b"https://" in body), (200, False, False))
     large = b"GET /healthz HTTP/1.1\r\nHost: localhost\r\n" + b"a: b\r\n" * 9000 + b"\r\n"
@@ -74,40 +85,47 @@ def admin_waits(case):
     case.same("it is well", server.fetch("/healthz")[0], 200)
 
 
+def matches(found):
+    """How often each policy of each filter matched."""
+    return {tuple(MATCH.fullmatch(name).groups()): it for name, it in found.items() if MATCH.fullmatch(name)}
+
+
 def metrics(case):
     """The metrics are what the case did, and Prometheus' own checker takes their text."""
-    server, plane, stream = case.ready(METHOD_IS_GET)
-    gone = server.answers("some", [(PLAIN * 3, allowed(b"0", 1) * 3), (POST * 2, denied(b"-", 1) * 2)])
-    gone.close()
+    server, plane, stream = case.ready_both()
+    turns = [(PLAIN * 3, GET_YES * 3), (POST * 2, POST_NO * 2), (PUT + DELETE, PUT_YES + DELETE_NO)]
+    server.answers("some", turns).close()
     fault = server.connect()
     fault.sendall(b"GET x HTTP/1.1\r\nHost: h\r\n\r\n")
     heard(fault, 10_000)
     fault.close()
-    large = server.answers("too large", [(long_head(65_537), told(TOO_LARGE, 1))])
-    large.close()
-    stream.give(b"2", REFUSED)
-    peer = server.answers("one more", [(PLAIN, allowed(b"0", 1))])
+    server.answers("too large", [(long_head(65_537), told(TOO_LARGE, 1))]).close()
+    stream.give(b"2", REFUSED, names=[ALLOW])
+    peer = server.answers("one more", [(PLAIN, GET_YES)])
     case.until("all are closed but one", lambda: server.metrics()["rbacd_connections_open"] == 1)
     found = server.metrics()
     for name, wanted in (
-            ('rbacd_requests_total{verdict="allow"}', 4), ('rbacd_requests_total{verdict="deny"}', 2),
+            ('rbacd_requests_total{verdict="allow"}', 5), ('rbacd_requests_total{verdict="deny"}', 3),
             ('rbacd_requests_total{verdict="fault"}', 2), ('rbacd_requests_total{verdict="unready"}', 0),
             ('rbacd_requests_total{verdict="memory"}', 0), ('rbacd_head_faults_total{status="400"}', 1),
-            ('rbacd_head_faults_total{status="431"}', 1), ('rbacd_matches_total{filter="f",policy="p"}', 4),
+            ('rbacd_head_faults_total{status="431"}', 1),
             ("rbacd_connections_open", 1), ("rbacd_connections_accepted_total", 4), ("rbacd_connections_refused_total", 0),
             ('rbacd_connections_closed_total{reason="served"}', 3), ("rbacd_stream_up", 1),
             ('rbacd_responses_total{result="accepted"}', 1), ('rbacd_responses_total{result="refused"}', 1),
             ("rbacd_admission_seconds_count", 2), ("rbacd_generation", 1), ("rbacd_ready", 1),
             ("rbacd_log_lines_dropped_total", 0)):
         case.same(name, found.get(name), wanted)
+    case.same("matches", matches(found), {("deny", "posts"): 2, ("allow", "gets"): 4, ("allow", "puts"): 1})
     case.until("the memory is told", lambda: 0.5 < server.metrics()["rbacd_resident_memory_bytes"] / server.memory() < 2)
     if shutil.which("promtool"):
         text = server.fetch("/metrics")[1]
         checked = subprocess.run(["promtool", "check", "metrics"], input=text, capture_output=True)
         case.same("promtool", (checked.returncode, checked.stdout, checked.stderr), (0, b"", b""))
-    stream.give(b"3", NO_POLICY)
-    case.same("matches of policies that were replaced", [name for name in server.metrics() if "rbacd_matches_total{" in name], [])
-    server.answers("and no more match", [(PLAIN, denied(b"-", 2))], peer)
+    server.answers("one in 64 decisions", [(PLAIN * 64, GET_YES * 64)], peer)
+    case.same("steps", [server.metrics()[f'rbacd_condition_steps_count{{filter="{it}"}}'] for it in ("deny", "allow")], [0, 1])
+    stream.give(b"3", NO_POLICY, names=[ALLOW])
+    case.same("matches of policies that were replaced, and of others", matches(server.metrics()), {("deny", "posts"): 2})
+    server.answers("and no more match", [(PLAIN, denied(b"-,-", 2))], peer)
     stream.close()
     plane.listener.close()
     case.until("the stream is down", lambda: server.metrics()["rbacd_stream_up"] == 0)
@@ -137,37 +155,43 @@ def names(case):
 
 
 def decisions(case):
-    """Each decision is a line of JSON. One in n of the allowed is logged, and each other one."""
-    server, _, stream = case.ready(METHOD_IS_GET, access_log={"path": "log"})
+    """Each decision is a line of JSON, with the filter that decided. One in n of the allowed is logged, and each other one."""
+    server, _, stream = case.ready_both(access_log={"path": "log"})
     peer = server.connect()
     name = "127.0.0.1:%d" % peer.getsockname()[1]
     odd = POST.replace(b"/", "/\u00e4?\"".encode(), 1)
-    server.answers("requests", [(PLAIN, allowed(b"0", 1)), (odd, denied(b"-", 1))], peer)
+    server.answers("requests", [(PLAIN, GET_YES), (odd, POST_NO), (PUT, PUT_YES), (DELETE, DELETE_NO)], peer)
     peer.sendall(b"GET x HTTP/1.1\r\nHost: h\r\n\r\n")
     heard(peer, 10_000)
-    case.until("three lines", lambda: len(server.logged("log")) >= 3)
-    both = {"connection": 0, "peer": name, "host": "h", "filter": "f", "generation": 1, "fault": None, "record": None}
-    wanted = [{**both, "method": "GET", "target": "/", "verdict": "allow", "status": 200, "policy": "p"},
-              {**both, "method": "POST", "target": "/\u00e4?\"", "verdict": "deny", "status": 403, "policy": None}]
+    case.until("five lines", lambda: len(server.logged("log")) >= 5)
+    each = {"connection": 0, "peer": name, "host": "h", "target": "/", "generation": 1, "fault": None, "record": None}
+    yes, no = {**each, "verdict": "allow", "status": 200}, {**each, "verdict": "deny", "status": 403}
+    wanted = [{**yes, "method": "GET", "filter": "allow", "policy": "gets"},
+              {**no, "method": "POST", "target": "/\u00e4?\"", "filter": "deny", "policy": "posts"},
+              {**yes, "method": "PUT", "filter": "allow", "policy": "puts"},
+              {**no, "method": "DELETE", "filter": "allow", "policy": None}]
     lines = server.logged("log")
-    case.same("their members", [{key: it for key, it in line.items() if key != "time"} for line in lines[:2]], wanted)
+    case.same("their members", [{key: it for key, it in line.items() if key != "time"} for line in lines[:4]], wanted)
     case.holds("their times", all(TIME.fullmatch(line["time"]) for line in lines), lines)
-    case.same("a fault", [lines[2][it] for it in ("verdict", "status", "method", "policy")], ["none", 400, None, None])
-    case.holds("its cause", lines[2]["fault"])
+    case.same("a fault", [lines[4][it] for it in ("verdict", "status", "method", "filter", "policy")],
+              ["none", 400, None, None, None])
+    case.holds("its cause", lines[4]["fault"])
     os.rename(case.folder / "log", case.folder / "old")
     os.rename(case.folder / "updates", case.folder / "old_updates")
-    server.answers("to the file that was renamed", [(PLAIN, allowed(b"0", 1))])
-    case.until("four lines", lambda: len(server.logged("old")) == 4)
+    server.answers("to the file that was renamed", [(PLAIN, GET_YES)])
+    case.until("six lines", lambda: len(server.logged("old")) == 6)
     case.same("/reopen", server.fetch("/reopen", "POST")[0], 200)
     case.until("a new file", lambda: (case.folder / "log").exists())
-    stream.give(b"2", NO_POLICY)
-    server.answers("to the new one", [(PLAIN, denied(b"-", 2))])
+    stream.give(b"2", NO_POLICY, names=[ALLOW])
+    server.answers("to the new one", [(PLAIN, denied(b"-,-", 2))])
     case.until("one line", lambda: len(server.logged("log")) == 1)
-    case.same("none is lost", [len(server.logged(it)) for it in ("old", "log", "updates")], [4, 1, 1])
+    case.same("none is lost", [len(server.logged(it)) for it in ("old", "log", "updates")], [6, 1, 1])
     server, _, _ = case.ready(METHOD_IS_GET, access_log={"path": "sampled", "sample": 10})
     server.answers("many", [(PLAIN * 100 + POST * 7, allowed(b"0", 1) * 100 + denied(b"-", 1) * 7)])
     case.until("17 lines", lambda: len(server.logged("sampled")) >= 17)
-    case.same("one in ten", [line["verdict"] for line in server.logged("sampled")].count("allow"), 10)
+    lines = server.logged("sampled")
+    case.same("one in ten", [line["verdict"] for line in lines].count("allow"), 10)
+    case.same("the only filter", {(line["filter"], line["policy"]) for line in lines}, {("f", "p"), ("f", None)})
 
 
 def full_disk(case):
@@ -200,105 +224,4 @@ def unread_errors(case):
     case.same("an answer", heard(peer, 102)[:15], b"HTTP/1.1 200 OK")
 
 
-def removed_record(case):
-    """A record that is removed is told, and answers go on."""
-    server, _, _ = case.ready(record={"path": "record"}, access_log={"path": "log"})
-    peer = server.answers("before", [(PLAIN, allowed(b"0", 1))])
-    (case.folder / "record").unlink()
-    server.answers("after", [(PLAIN, allowed(b"0", 1))], peer)
-    path = case.folder / "record"
-    case.until("it is told, or there is a new file", lambda: "record" in server.errors.read_text() or path.exists())
-
-
-def replayed(case, record, number):
-    """What the replay of a connection out of a file of the record answers."""
-    text = (case.folder / record).read_bytes()
-    status, out, errors = case.run("replay", "--config", "proxy.json", "--connection", number, given=text[:text.rfind(b"\n") + 1])
-    case.same(f"the replay of {number} out of {record}", (status, errors), (0, b""))
-    return b"".join(bytes.fromhex(line.split()[2].replace("-", "")) for line in out.decode().splitlines())
-
-
-def numbers(case, server):
-    """The number of each connection, by its client's port."""
-    return {int(line["peer"].rsplit(":", 1)[1]): line["connection"] for line in server.logged("log")}
-
-
-def record(case):
-    """The replay of each connection gives the bytes that its client got: amid updates, faults and resets of the stream."""
-    plane = case.plane()
-    server = case.serve(plane.address, record={"path": "record"}, access_log={"path": "log"})
-    peers, got = [server.connect() for _ in range(12)], {}
-
-    def turn(number, sent, wanted):
-        server.answers(f"connection {number}", [(sent, wanted)], peers[number])
-        got[number] = got.get(number, b"") + wanted
-    turn(0, PLAIN, UNREADY)
-    stream = plane.accept()
-    stream.frame()
-    stream.give(b"1", METHOD_IS_GET)
-    for number in range(12):
-        turn(number, PLAIN + POST, allowed(b"0", 1) + denied(b"-", 1))
-    stream.give(b"2", REFUSED)
-    peers[1].sendall(PLAIN[:11])
-    stream.close()
-    stream = plane.accept()
-    stream.frame()
-    stream.give(b"3", ANY_ANY)
-    turn(1, PLAIN[11:] + POST, allowed(b"0", 2) * 2)
-    for byte in POST[:-2] + b"Content-Length: 3\r\n\r\nabc":
-        peers[2].sendall(bytes([byte]))
-    turn(2, b"", allowed(b"0", 2))
-    turn(3, b"GET x HTTP/1.1\r\nHost: h\r\n\r\n", answer(b"400 Bad Request", b"none", b"-", 2, closes=True))
-    peers[4].close()
-    turn(5, long_head(65_537), told(TOO_LARGE, 2))
-    case.until("all are logged", lambda: len(numbers(case, server)) == 12 and len(server.logged("log")) == 30)
-    time.sleep(0.1)
-    found = numbers(case, server)
-    for number, peer in enumerate(peers):
-        if number != 4:
-            it = found[peer.getsockname()[1]]
-            case.same(f"connection {number}", replayed(case, "record", it), got[number])
-    lines = (case.folder / "record").read_bytes().split(b"\n")
-    for line in server.logged("log"):
-        event = json.loads(lines[line["record"]["line"] - 1])
-        case.same("the line that a decision names", (event["event"], event["k"]), ("http_bytes", line["connection"]))
-
-
-def rotation(case):
-    """Each file of a record suffices for what it has: it begins with the accepted policies."""
-    server, _, stream = case.ready(record={"path": "record", "bytes": 65_536, "files": 99}, access_log={"path": "log"})
-    peers = [server.connect() for _ in range(4)]
-    got = [b""] * 4
-    version = 1
-    for turn in range(60):
-        if turn % 10 == 9:
-            version += 1
-            stream.give(b"%d" % version, METHOD_IS_GET if turn % 20 == 9 else ANY_ANY)
-        for number, peer in enumerate(peers):
-            padded = PLAIN[:-2] + b"a: %s\r\n\r\n" % (b"x" * 1000)
-            half = turn % 2 and number == 3
-            server.answers("a request", [(padded, allowed(b"0", version))] if not half else [], peer)
-            if half:
-                peer.sendall(padded[:500])
-                time.sleep(0.01)
-                server.answers("a half", [(padded[500:], allowed(b"0", version))], peer)
-            got[number] += allowed(b"0", version)
-    case.until("all are logged", lambda: len(server.logged("log")) == 240)
-    files = sorted((it.name for it in case.folder.glob("record*")), key=lambda it: -int(it[7:] or 0))
-    case.holds("there are several files", len(files) > 3, files)
-    found = numbers(case, server)
-    for number, peer in enumerate(peers):
-        it = found[peer.getsockname()[1]]
-        parts = [replayed(case, name, it) for name in files]
-        case.same(f"connection {number}", b"".join(parts), got[number])
-        case.holds("the last file has some of it", number == 3 or parts[-1], [len(part) for part in parts])
-    late = server.answers("a late one", [(PLAIN, allowed(b"0", version))])
-    port = late.getsockname()[1]
-    case.until("it is logged", lambda: port in numbers(case, server))
-    case.same("the last file alone", replayed(case, "record", numbers(case, server)[port]), allowed(b"0", version))
-    last = max(server.logged("log"), key=lambda line: (line["record"]["file"], line["record"]["line"]))["record"]
-    case.same("the number of the last file", last["file"], len(files))
-
-
-CASES = {it.__name__: it for it in (admin, admin_waits, metrics, names, decisions, full_disk, unread_errors, removed_record,
-                                    record, rotation)}
+CASES = {it.__name__: it for it in (admin, admin_waits, metrics, names, decisions, full_disk, unread_errors)}

@@ -5,7 +5,7 @@ import time
 from loopback import heard
 from replays import ANY_ANY, F, METHOD_IS_GET, PLAIN, UNREADY, allowed, answer, closing, denied, request, told, without_body
 from try_serve_base import equals, field, filter_of, number, policy, text, whole
-from try_serve_logs import replayed
+from try_serve_records import replayed
 
 YES, NO = allowed(b"0", 1), denied(b"-", 1)
 BAD = answer(b"400 Bad Request", b"none", b"-", 1)
@@ -44,7 +44,7 @@ MEMBERS = (
     ("direct_remote_ip", "x-f", directly_from(b"10.0.0.0", 8), b"10.1.2.3", b"127.0.0.1", (b"", b"10.1.2.3,")),
     ("source.port", "x-f", condition(b"source", b"port", whole(4321)), b"4321", b"4322", (b"", b"+1", b"65536", b"x", b"-1")),
     ("mtls", {"field": "x-f", "is": "SUCCESS"}, condition(b"connection", b"mtls", TRUE), b"SUCCESS", b"success", ()),
-    ("requested_server_name", "x-f", condition(b"connection", b"requested_server_name", text(b"a b")), b"a b", b"a", ()),
+    ("requested_server_name", "x-f", condition(b"connection", b"requested_server_name", text(b"a b")), b"A b", b"a", ()),
     ("subject_peer_certificate", "x-f", condition(b"connection", b"subject_peer_certificate", text(b"CN=a,O=b")), b"CN=a,O=b",
      b"CN=a", ()),
     ("dns_san_peer_certificate", "x-f", condition(b"connection", b"dns_san_peer_certificate", text(b"a.b")), b"a.b", b"a.c", ()),
@@ -71,8 +71,9 @@ LISTS = (
     (1, b"", BAD), (1, b"10.0.0.1 11.0.0.1", BAD), (1, b"evil,,,10.0.0.1", YES), (2, b"10.0.0.1", BAD),
     (2, b"10.0.0.1, 11.0.0.1", YES), (2, b"11.0.0.1, 10.0.0.1", NO), (2, b"10.0.0.1, 11.0.0.1, 12.0.0.1", NO),
     (2, b"11.0.0.1, 10.0.0.1, 12.0.0.1", YES), (3, b"10.0.0.1, 11.0.0.1", BAD),
-    # an IPv4 address as an IPv6 one, which no IPv4 range has
-    (1, b"::ffff:10.0.0.1", BAD), (1, b"::ffff:a00:1", BAD), (1, b"0:0:0:0:0:FFFF:0A00:0001", BAD), (1, b"::fffe:a00:1", NO))
+    # an IPv4 address that is written as one of IPv6 is one of IPv4
+    (1, b"::ffff:10.0.0.1", BAD), (1, b"::ffff:a00:1", YES), (1, b"0:0:0:0:0:FFFF:0A00:0001", YES), (1, b"::ffff:b00:1", NO),
+    (1, b"::fffe:a00:1", NO))
 
 
 def lists(case):

@@ -157,7 +157,7 @@ def capacity(case):
 
 def descriptors(case):
     """With few descriptors the connections that are open are served. The others wait until some are closed."""
-    server, plane, stream = case.ready(descriptors=24)
+    server, plane, stream = case.ready(limit="--nofile=24:24")
     yes = allowed(b"0", 1)
     peers = [server.connect() for _ in range(40)]
     for peer in peers:

@@ -1,4 +1,5 @@
 """How a server starts, and how it ends: its settings, its addresses, and its standard input."""
+import json
 import os
 import socket
 import stat
@@ -7,7 +8,7 @@ import time
 
 from loopback import free_port, heard
 from replays import F, PLAIN, allowed, denied, request
-from try_serve_base import equals, filter_of, policy, remote, text, timed_out, whole
+from try_serve_base import TOP, equals, filter_of, policy, remote, text, timed_out, whole
 
 PROXY = {"node": "n", "cluster": "c", "filters": [{"name": "f"}]}
 LEAST = {"proxy": PROXY, "listen": "127.0.0.1:18080", "control": "127.0.0.1:18000"}
@@ -50,7 +51,8 @@ BAD = [
     ({"map": {"remote_ip": {"field": "x-a", "left": 1}}}, "map.remote_ip.left"), ({"map": {"remote_ip": ["x-a"]}}, "map.remote_ip"),
     ({"require": "x-a"}, "require"), ({"require": None, "paths": None, "map": {"host": None}}, "map.host"), ({"require": [1]}, "require[0]"),
     ({"require": ["x-a", "X-B"]}, "require[1]"), ({"require": ["x-a", "x-a"]}, "require[1]"),
-    ({"map": {"host": "x-a"}, "require": ["x-a"]}, "require[0]"), ({"paths": "Strict"}, "paths"), ({"paths": True}, "paths")]
+    ({"map": {"host": "x-a"}, "require": ["x-a"]}, "require[0]"), ({"paths": "Strict"}, "paths"), ({"paths": True}, "paths"),
+    ({"path": "strict"}, "path")]
 
 
 def check(case):
@@ -58,7 +60,7 @@ def check(case):
     case.config("least", LEAST)
     status, out, errors = case.run("serve", "--config", "least", "--check")
     case.same("the least settings", (status, errors), (0, b""))
-    wanted = ['node "n"', 'cluster "c"', 'filter "f" budget 1000000',
+    wanted = ['node "n"', 'cluster "c"', 'filter "f" budget 1000000 visits 4194304',
               "limits fields 64 name 128 value 4096 method 32 target 4096 text 1024", "listen 127.0.0.1:18080",
               "control 127.0.0.1:18000", "connections 1024", "until_eof false"]
     lines = out.decode().splitlines()
@@ -80,6 +82,19 @@ def check(case):
                   "map host x-host", "map remote_ip x-for hops 16", 'map mtls x-verify is "O K"', "require x-z", "paths strict"):
         case.holds(f"--check says {words}", any(words in line for line in lines), lines)
     case.same("nothing was made", sorted(it.name for it in case.folder.iterdir()), ["least", "more"])
+
+
+def examples(case):
+    """The settings in `examples` are good. Those with two filters say so."""
+    shown = {}
+    for path in sorted((TOP / "examples").glob("**/*.json")):
+        if "listen" in json.loads(path.read_text()):
+            status, out, errors = case.run("serve", "--config", path, "--check")
+            case.same(path.name, (status, errors), (0, b""))
+            shown[path.name] = out.decode().splitlines()
+    case.holds("all were tried", {"first.json", "serve.json", "serve_mapped.json", "serve_two.json"} <= set(shown), sorted(shown))
+    filters = [line for line in shown["serve_two.json"] if line.startswith("filter ")]
+    case.same("two filters", filters, ['filter "deny" budget 1000000 visits 4194304', 'filter "allow" budget 50000 visits 4194304'])
 
 
 def bad_settings(case):
@@ -254,6 +269,20 @@ def known_facts(case):
     server.answers("https", [(PLAIN, allowed(b"0", 2))])
     stream.give(b"3", filter_of(policy(principal=remote(b"127.0.0.1", 32))))
     server.answers("the address of the peer as well", [(PLAIN, allowed(b"0", 3))])
+    server.stop()
+    unix_facts(case)
+
+
+def unix_facts(case):
+    """At a Unix socket addresses and ports come from `facts`. At a TCP socket they are the peer's."""
+    known = {"source.address": "10.0.0.1:5", "source.port": 5, "direct_remote_ip": "10.0.0.1", "destination.port": 6}
+    server, _, stream = case.ready(filter_of(policy(principal=remote(b"10.0.0.1", 32))), facts=known, also="unix:s")
+    for number, content in enumerate((
+            policy(principal=remote(b"10.0.0.1", 32)), policy(condition=equals(b"source", b"address", text(b"10.0.0.1:5"))),
+            policy(condition=equals(b"source", b"port", whole(5))), policy(permission=b"\x30\x06")), 2):
+        stream.give(b"%d" % number, filter_of(content))
+        server.answers("at a Unix socket", [(PLAIN, allowed(b"0", number))], server.connect_unix("s"))
+        server.answers("at a TCP socket", [(PLAIN, denied(b"-", number))])
 
 
 def until_eof(case):
@@ -299,5 +328,5 @@ def handed_socket(case):
             case.same("an answer", heard(peer, 100), allowed(b"0", 1))
 
 
-CASES = {it.__name__: it for it in (check, bad_settings, strange_records, addresses, unix_paths, facts, mapped_facts, known_facts, until_eof,
-                                    handed_socket, no_streams)}
+CASES = {it.__name__: it for it in (check, examples, bad_settings, strange_records, addresses, unix_paths, facts, mapped_facts,
+                                    known_facts, until_eof, handed_socket, no_streams)}

@@ -18,7 +18,7 @@
 //                                         a condition from its bytes to its tree (PART 1), its type (2), its bound (3), its code (4)
 //                                         or until its code is verified (5)
 //   probe pack COUNT [ROUNDS [DIFFERENT]]  a code of so many constants, all of them different or so many
-//   probe bound EXPRESSION [ROUNDS [BUDGET]]
+//   probe bound EXPRESSION [ROUNDS [BUDGET [VISITS]]]
 //                                         the bound of an expression that was read and checked once
 // `kept` is what stands when a filter was admitted (work `keep`), `peak` the most that ever stood; both count the blocks as
 // malloc makes them. `faults` is how many pages the system gave to the work.
@@ -47,7 +47,7 @@ uint64_t engine_update(const char *stream, size_t length, size_t piece, uint64_t
 uint64_t engine_update_alone(const char *stream, size_t length, size_t piece, uint64_t rounds);
 uint64_t engine_expression(const char *bytes, size_t length, uint64_t part, uint64_t budget, uint64_t rounds);
 uint64_t engine_pack(uint64_t count, uint64_t different, uint64_t rounds);
-uint64_t engine_bound(const char *bytes, size_t length, uint64_t budget, uint64_t rounds);
+uint64_t engine_bound(const char *bytes, size_t length, uint64_t steps, uint64_t visits, uint64_t rounds);
 
 void *__real_malloc(size_t size);
 void *__real_realloc(void *block, size_t size);
@@ -55,6 +55,9 @@ void __real_free(void *block);
 
 // The greatest budget of a filter.
 static const uint64_t BUDGET = 100000000;
+
+// The most visits that a filter may be given.
+static const uint64_t VISITS = 0x7fffffffffffffff;
 
 // The last part of a condition's way.
 enum { VERIFIED = 5 };
@@ -147,7 +150,8 @@ int main(int count, char **words) {
   if (!strcmp(work, "expression"))
     answer = engine_expression(input.start, input.length, count > 4 ? strtoull(words[4], 0, 10) : VERIFIED, BUDGET, rounds);
   if (!strcmp(work, "bound"))
-    answer = engine_bound(input.start, input.length, count > 4 ? strtoull(words[4], 0, 10) : BUDGET, rounds);
+    answer = engine_bound(input.start, input.length, count > 4 ? strtoull(words[4], 0, 10) : BUDGET,
+                          count > 5 ? strtoull(words[5], 0, 10) : VISITS, rounds);
   if (!strncmp(work, "update", 6))
     answer = (strcmp(work, "update") ? engine_update_alone : engine_update)(
         input.start, input.length, count > 4 ? strtoull(words[4], 0, 10) : 16384, rounds);

@@ -8,12 +8,13 @@ use Rattle.std.proofs.lemmas.List.{map-append}
 use Rattle.std.proofs.lemmas.Slice.Eq.{bytes_eq-Decides}
 use Rattle.indexmap.specs.IndexMap.{insert_entry}
 use Rattle.proto_wire.specs.Merge.{SomeOf}
+use Rattle.cost_bound.specs.declared.budget.Budget.{Budget}
 use Rattle.ads.specs.Config.{FilterValue, HasName, Repeats}
 use Rattle.ads.specs.declared.config.Filter.{Filter}
 use Rattle.ads.specs.Views.{filter_view, filters_view, entries_view, entry_view}
 
 -- an entry of a new name goes last
-insert_new : (k : String Global) (v : ℕ) (entries : List (String Global × ℕ))
+insert_new : (k : String Global) (v : Budget) (entries : List (String Global × Budget))
     → (SomeOf (HasName (string_bytes k)) (entries_view entries) → ⊥)
     → insert_entry string_eq entries k v ≡ entries ++ (k, v) ∷ []
 insert_new k v [] none = refl
@@ -38,7 +39,7 @@ new_name (g ∷ fs) rest f (inl same) = inl (later fs)
 new_name (g ∷ fs) rest f (inr some) = inr (new_name fs rest f some)
 
 -- one filter more
-pub ordered_more : (entries now : List (String Global × ℕ)) (before rest after all : List Filter) (f : Filter)
+pub ordered_more : (entries now : List (String Global × Budget)) (before rest after all : List Filter) (f : Filter)
     → (Repeats (filters_view all) → ⊥) → (entries_view entries ≡ filters_view before)
     → before ++ rest ≡ all → rest ≡ f ∷ after
     → now ≡ insert_entry string_eq entries f.name f.budget
@@ -54,7 +55,7 @@ ordered_more entries now before rest after all f distinct same whole next insert
     ∙ ap (λ fs. fs ++ filter_view f ∷ []) same ∙ sym (map-append filter_view before (f ∷ []))
 
 -- entries that are clones of others stand for the same filters
-pub clones_view : (es fs : List (String Global × ℕ))
+pub clones_view : (es fs : List (String Global × Budget))
     → AllZip (λ p q. (string_bytes q.0 ≡ string_bytes p.0) × (q.1 ≡ p.1)) es fs
     → entries_view fs ≡ entries_view es
 clones_view [] [] all = refl

@@ -8,6 +8,7 @@ use Rattle.std.specs.declared.alloc.Global.{Global}
 use Rattle.std.proofs.lemmas.List.{length-map}
 use Rattle.std.proofs.lemmas.List.Quantifiers.{position-Some}
 use Rattle.indexmap.proofs.MapLemmas.{Missing-position}
+use Rattle.cost_bound.specs.declared.budget.Budget.{Budget}
 use Rattle.ads.specs.Views.{admitted_view}
 use Rattle.rbac_policy.specs.declared.filter.Admitted.{Admitted}
 use Rattle.ads.specs.Client.{policies_at}
@@ -19,7 +20,7 @@ module _ (name : List ℕ) where
   is_key k = bytes_eq name (string_bytes k)
 
   -- by the first place whose key is the name
-  at_first : (es : List (String Global × ℕ)) (ps : List (Option Admitted)) (i : ℕ) (d : String Global)
+  at_first : (es : List (String Global × Budget)) (ps : List (Option Admitted)) (i : ℕ) (d : String Global)
       (o : Option Admitted) → length ps ≡ length es → i < length es
       → is_key (get_or (keys_of es) i d) ≡ true
       → ((k : ℕ) → k < i → is_key (get_or (keys_of es) k d) ≡ false)
@@ -33,7 +34,7 @@ module _ (name : List ℕ) where
       (λ k below. before (suc k) (omega (arith, below))))
 
   -- at the place that a map gives
-  pub found_at : (es : List (String Global × ℕ)) (ps : List (Option Admitted)) (i : ℕ)
+  pub found_at : (es : List (String Global × Budget)) (ps : List (Option Admitted)) (i : ℕ)
       (o : Option Admitted) → length ps ≡ length es
       → Some i ≡ position (λ k. bytes_eq name (string_bytes k)) (keys_of es)
       → policies_at name (entries_view es) (policies_view ps) ≡ option_map admitted_view (get_or ps i o)
@@ -43,7 +44,7 @@ module _ (name : List ℕ) where
       let within : i < length (e ∷ es) = omega (arith, found.0, length-map es (λ e. e.0)) in
       at_first (e ∷ es) ps i e.0 o same within found.1 found.2
 
-  no_key : (es : List (String Global × ℕ)) (ps : List (Option Admitted))
+  no_key : (es : List (String Global × Budget)) (ps : List (Option Admitted))
       → lookup (λ k. bytes_eq name (string_bytes k)) es ≡ None
       → policies_at name (entries_view es) (policies_view ps) ≡ None
   no_key [] ps none = refl
@@ -59,7 +60,7 @@ module _ (name : List ℕ) where
       by false is found more = rw is (more found)
 
   -- where no key is the name
-  pub not_found : (es : List (String Global × ℕ)) (ps : List (Option Admitted))
+  pub not_found : (es : List (String Global × Budget)) (ps : List (Option Admitted))
       → None ≡ position (λ k. bytes_eq name (string_bytes k)) (keys_of es)
       → policies_at name (entries_view es) (policies_view ps) ≡ None
   not_found es ps is =

@@ -17,6 +17,7 @@ use Rattle.rbac_policy.specs.Filter.{Filter}
 use Rattle.rbac_policy.specs.Admission.{Admits}
 use Rattle.rbac_policy.specs.Admitted.{filter_view, limits_view}
 use Rattle.rbac_policy.specs.declared.filter.Admitted.{Admitted}
+use Rattle.cost_bound.specs.declared.budget.Budget.{Budget}
 use Rattle.ads.specs.Config.{ConfigValue, FilterValue}
 use Rattle.ads.specs.private.Taking.{filter_of}
 use Rattle.ads.specs.Answer.{Gives, HoldsFilter, named, IsResource, IsNamed, IsRefusedFor, TwoOf, Refuses, doubled, refused, ExtensionIsRefused, FirstOf, HoldsFilterOf, IsAdmitting, RefusesNothing, extension_type, no_filter, not_admitted}
@@ -98,7 +99,7 @@ module _ (c : ConfigValue) (response : ResponseMessage) (xs : List ExtensionMess
   one_fault fault bytes f (another_type x one other is none) =
       inr (inl (some_named f.name (λ x. ExtensionIsRefused c.limits f x fault.refusal) response.resources xs reads
       (rw one (inl (no_filter other is)))))
-  one_fault fault bytes f (message_refused (x, one, holds) faulty placed) = elim faulty [
+  one_fault fault bytes f (message_refused (x, one, holds) faulty left placed) = elim faulty [
     | inl memory ↦ inr (inr ((bytes, (x, one, holds)), memory))
     | inr wrong ↦
         inr (inl (some_named f.name (λ x. ExtensionIsRefused c.limits f x fault.refusal) response.resources xs reads
@@ -179,7 +180,7 @@ runs_out c response given (Ok j) fault same = tt
 runs_out c response given (Err e) fault same = rw same at fault
 
 -- what is admitted is given to a filter of any name
-pub admitted_gives : {E : Type 0} (limits : LimitsValue) (budget : ℕ) (x : ExtensionMessage) (bytes : List ℕ)
+pub admitted_gives : {E : Type 0} (limits : LimitsValue) (budget : Budget) (x : ExtensionMessage) (bytes : List ℕ)
     → HoldsFilter x bytes → (r : Result Admitted E)
     → IfOk r (λ a. (policies : Filter CelChecked) × Admits bytes limits budget policies (filter_view a))
     → IfOk r (λ a. limits_view a ≡ limits) → (a : Admitted) → r ≡ Ok a

@@ -16,6 +16,7 @@ use Rattle.proto_wire.proofs.MapOrder.{entries_from_entries}
 use Rattle.proto_wire.proofs.StandardFacts.{field, len_starts, merged}
 use Rattle.xds_wire.specs.Discovery.{AnyMessage, IsAny, ExtensionMessage, IsExtension, NodeMessage, RequestMessage, ResponseMessage, StatusMessage}
 use Rattle.cel_tree.specs.Checked.{CelChecked}
+use Rattle.cost_bound.specs.Budgets.{nothing, of_steps}
 use Rattle.rbac_policy.specs.Admission.{Admits}
 use Rattle.rbac_policy.specs.Condition.{Program}
 use Rattle.rbac_policy.specs.Costs.{FilterCosts, PoliciesCost}
@@ -43,7 +44,7 @@ node = record { id = codes "envoy"; cluster = [] }
 
 -- a filter of this name
 abbrev of_name : List ℕ → FilterValue
-of_name name = record { name = name; budget = 100 }
+of_name name = record { name = name; budget = of_steps 100 }
 
 -- the client's configuration, under limits of requests
 abbrev configuration : LimitsValue → ConfigValue
@@ -173,10 +174,10 @@ abbrev enforced : Filter Program
 enforced = record { action = Allow; policies = from_entries kept }
 
 module _ (limits : LimitsValue) where
-  costs_nothing : FilterCosts limits rbac.filter 0
+  costs_nothing : FilterCosts limits rbac.filter nothing
   costs_nothing =
-      subst (λ ps. PoliciesCost limits ps 0) (sym (entries_from_entries name_cmp nat_list_cmp_total written tt))
-      (0, 0, refl, refl, refl)
+      subst (λ ps. PoliciesCost limits ps nothing) (sym (entries_from_entries name_cmp nat_list_cmp_total written tt))
+      (nothing, nothing, refl, refl, refl)
 
   is_enforced : Enforces limits rbac.filter enforced
   is_enforced = record {
@@ -192,9 +193,9 @@ module _ (limits : LimitsValue) where
         ]);
   }
 
-  is_admitted : Admits rbac.filter_bytes limits 100 rbac.filter enforced
+  is_admitted : Admits rbac.filter_bytes limits (of_steps 100) rbac.filter enforced
   is_admitted = record {
-    admissible = record { message = rbac.is_filter; cost = 0; costs = costs_nothing; cheap = lit≤ tt };
+    admissible = record { message = rbac.is_filter; needs = nothing; costs = costs_nothing; covered = (lit≤ tt, lit≤ tt) };
     enforces = is_enforced;
   }
 

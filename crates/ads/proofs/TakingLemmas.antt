@@ -9,6 +9,7 @@ use Rattle.std.specs.declared.alloc.Global.{Global}
 use Rattle.std.proofs.lemmas.List.{length-map, map-append}
 use Rattle.attributes.specs.Limits.{LimitsValue}
 use Rattle.xds_wire.specs.Discovery.{ExtensionMessage}
+use Rattle.cost_bound.specs.declared.budget.Budget.{Budget}
 use Rattle.ads.specs.Config.{FilterValue}
 use Rattle.ads.specs.Views.{admitted_view}
 use Rattle.rbac_policy.specs.declared.filter.Admitted.{Admitted}
@@ -21,10 +22,10 @@ use Rattle.ads.specs.Views.{policies_view}
 use Rattle.ads.proofs.Lists.{first_middle, first_place, zip_push}
 
 Entry : Type 0
-Entry = String Global × ℕ
+Entry = String Global × Budget
 
 Lent : Type 0
-Lent = Bor (String Global) × Bor ℕ
+Lent = Bor (String Global) × Bor Budget
 
 -- a filter that is given policies, or none without an extension, refuses nothing
 refuses_none : (limits : LimitsValue) (all : List ExtensionMessage) (f : FilterValue) (ys : List ExtensionMessage)
@@ -39,8 +40,8 @@ pub refuses_nothing : (limits : LimitsValue) (all : List ExtensionMessage) (f : 
     (given : Option AdmittedValue) → Gives limits f (named f.name all) given → RefusesNothing limits all f
 refuses_nothing limits all f given gives = refuses_none limits all f (named f.name all) given refl gives
 
-module _ (limits : LimitsValue) (xs : List ExtensionMessage) (yielded : List (Bor (String Global) × Bor ℕ))
-    (rest after entries : List (String Global × ℕ)) (name : Bor (String Global)) (budget : Bor ℕ) (text : List ℕ)
+module _ (limits : LimitsValue) (xs : List ExtensionMessage) (yielded : List (Bor (String Global) × Bor Budget))
+    (rest after entries : List (String Global × Budget)) (name : Bor (String Global)) (budget : Bor Budget) (text : List ℕ)
     (whole : map deref_pair yielded ++ rest ≡ entries) (next : rest ≡ (name.now, budget.now) ∷ after)
     (same : text ≡ string_bytes name.now) where
   -- the filter is the first of which this holds; those before it refuse nothing

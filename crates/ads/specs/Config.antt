@@ -4,12 +4,14 @@ use Rattle.std.specs.Prelude.{◌≡◌, ◌≢◌, ◌⊎◌, ℕ, ◌<◌, ◌
 use Rattle.std.specs.List.{AllByRecursion}
 use Rattle.attributes.specs.Limits.{LimitsValue}
 use Rattle.proto_wire.specs.Merge.{SomeOf}
+use Rattle.cost_bound.specs.Budgets.{IsBudget}
+use Rattle.cost_bound.specs.declared.budget.Budget.{Budget}
 use Rattle.ads.specs.declared.config.ConfigFault.{ConfigFault}
 
--- a filter: the name of its resource, and the budget of its conditions in steps
+-- a filter: the name of its resource, and the budget of its conditions
 pub record FilterValue : Type 0 where
   pub name : List ℕ
-  pub budget : ℕ
+  pub budget : Budget
 
 -- a configuration: the node's id and cluster, the filters in configured order, and the limits of their requests
 pub record ConfigValue : Type 0 where
@@ -34,10 +36,6 @@ Repeats (f ∷ fs) = SomeOf (HasName f.name) fs ⊎ Repeats fs
 -- a filter's name has 1 to 256 bytes
 abbrev pub IsName : List ℕ → Type 0
 IsName name = (1 ≤ length name) × (length name ≤ 256)
-
--- a budget is 1 to 100,000,000
-abbrev pub IsBudget : ℕ → Type 0
-IsBudget budget = (1 ≤ budget) × (budget ≤ 100000000)
 
 -- the filter's name and its budget are allowed
 abbrev pub IsFilter : FilterValue → Type 0

@@ -10,7 +10,9 @@ use Rattle.proto_wire.specs.declared.refusal.Refusal.{Refusal}
 use Rattle.xds_wire.specs.Discovery.{ExtensionMessage, IsResponse, RequestMessage, ResponseFault, ResponseMessage}
 use Rattle.proto_wire.specs.Merge.{SomeOf}
 use Rattle.xds_wire.specs.Frames.{Cut, Tail}
+use Rattle.cost_bound.specs.declared.budget.Budget.{Budget}
 use Rattle.rbac_policy.specs.Admission.{Fault}
+use Rattle.rbac_policy.specs.Budget.{OverAt}
 use Rattle.rbac_policy.specs.Places.{PlacedOr, of_filter}
 use Rattle.ads.specs.Answer.{Accepted, Accepts, HoldsFilter, HoldsFilterOf, IsResource, RefusesNothing, ResourceFault, ack_of, extension_type, nack_of, named}
 use Rattle.ads.specs.Client.{ClientValue, IsFrameThen, ended_by, fault_in, most_bytes}
@@ -27,7 +29,8 @@ IsWrong response e = ((response.type_url ≢ extension_type) × (e ≡ Refusal.W
     ⊎ SomeOf (λ any. ResourceFault any e) response.resources
 
 -- why a filter refuses the extensions of a response. Two have its name, or one has it and holds no filter's message, or
--- that message, which has these bytes, is not admitted. The place is then that of a part that has the fault
+-- that message, which has these bytes, is not admitted. The place is then that of a part that has the fault, or of the
+-- condition with which they take more than the filter's budget
 pub data Unfit (limits : LimitsValue) (extensions : List ExtensionMessage) (f : FilterValue) (fault : Placed)
     (bytes : List ℕ) : Type 0 where
   two_extensions : (x y : ExtensionMessage) (more : List ExtensionMessage) → named f.name extensions ≡ x ∷ y ∷ more
@@ -36,7 +39,8 @@ pub data Unfit (limits : LimitsValue) (extensions : List ExtensionMessage) (f : 
       → ((held : List ℕ) → HoldsFilter x held → ⊥) → fault.refusal ≡ Refusal.WrongType → bytes ≡ []
       → Unfit limits extensions f fault bytes
   message_refused : HoldsFilterOf extensions f bytes → FaultOr (λ e. Fault e bytes limits f.budget) fault
-      → PlacedOr (of_filter bytes) fault → Unfit limits extensions f fault bytes
+      → (left : Budget) → PlacedOr (OverAt bytes limits f.budget left) (of_filter bytes) fault
+      → Unfit limits extensions f fault bytes
 
 -- `P` holds of the element at the place, and `Q` of each before it
 abbrev pub FirstAt : {A : Type 0} → (A → Type 0) → (A → Type 0) → ℕ → List A → Type 0

@@ -4,6 +4,7 @@ use Rattle.std.specs.String.{string_bytes}
 use Rattle.std.specs.declared.string.String.{String}
 use Rattle.std.specs.declared.alloc.Global.{Global}
 use Rattle.attributes.specs.Limits.{LimitsValue}
+use Rattle.cost_bound.specs.declared.budget.Budget.{Budget}
 use Rattle.rbac_policy.specs.Admitted.{filter_view as enforced_view, limits_view}
 use Rattle.rbac_policy.specs.declared.filter.Admitted.{Admitted}
 use Rattle.ads.specs.Config.{FilterValue, ConfigValue}
@@ -23,11 +24,11 @@ abbrev pub filters_view : List Filter → List FilterValue
 filters_view fs = map filter_view fs
 
 -- the filter with this name and this budget
-abbrev pub entry_view : String Global × ℕ → FilterValue
+abbrev pub entry_view : String Global × Budget → FilterValue
 entry_view entry = record { name = string_bytes entry.0; budget = entry.1 }
 
 -- the filters of a map, in its order
-abbrev pub entries_view : List (String Global × ℕ) → List FilterValue
+abbrev pub entries_view : List (String Global × Budget) → List FilterValue
 entries_view entries = map entry_view entries
 
 -- the configuration with these parts

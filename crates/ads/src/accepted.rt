@@ -10,6 +10,7 @@ ghost use Rattle.ads.specs.private.Drafts.{draft_view, Covers};
 
 use crate::config::Config;
 use crate::judgement::Judgement;
+use cost_bound::Budget;
 use indexmap::IndexMap;
 use rbac_policy::Admitted;
 use std::alloc::{AllocError, Global};
@@ -54,7 +55,7 @@ impl State {
 /// A list with no policies for each of the filters.
 fn no_policies(
     alloc: Global,
-    filters: &IndexMap<String, u64>,
+    filters: &IndexMap<String, Budget>,
 ) -> Result<Vec<Option<Admitted>>, AllocError>
     ensures { IfOk result (λ v. policies_view v.items ≡ map (λ f. None) (entries_view filters.now.entries)) }
 {

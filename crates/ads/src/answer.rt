@@ -175,5 +175,6 @@ fn refused_of(alloc: Global, refusing: &RefusalCause<'_>) -> Result<Refused, All
         fault: refusing.fault,
         filter: refusing.filter,
         message: Vec::from_slice(alloc, refusing.message)?,
+        left: refusing.left,
     })
 }

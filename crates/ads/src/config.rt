@@ -9,6 +9,7 @@ ghost use Rattle.ads.specs.declared.config.ConfigFault.TheVariants.{NoFilter, To
 ghost use Rattle.ads.specs.Views.{filter_view, filters_view, entries_view};
 
 use attributes::Limits;
+use cost_bound::Budget;
 use indexmap::IndexMap;
 use std::alloc::{AllocError, AllocFailed, Global};
 use std::marker::Model;
@@ -19,16 +20,13 @@ pub(crate) const MOST_FILTERS: usize = 8;
 /// The greatest length in bytes of a filter's name, of the node and of the cluster.
 const LONGEST_NAME: usize = 256;
 
-/// The greatest budget, in steps.
-const LARGEST_BUDGET: u64 = 100_000_000;
-
-/// A filter: the name of its resource, and the budget of its conditions in steps.
+/// A filter: the name of its resource, and the budget of its conditions.
 #[derive(Debug, Drop)]
 pub struct Filter {
     /// The name, of 1 to 256 bytes.
     pub name: String,
-    /// The budget, 1 to 100,000,000 steps.
-    pub budget: u64,
+    /// The budget, 1 to 100,000,000 steps and 1 to 2^63 - 1 visits.
+    pub budget: Budget,
 }
 
 /// Why a configuration is refused.
@@ -42,7 +40,7 @@ pub enum ConfigFault {
     DoubledName,
     /// A filter's name is empty or has more than 256 bytes, or the node or the cluster has more.
     BadName,
-    /// A budget is 0 or above 100,000,000.
+    /// A budget has too few or too many steps or visits.
     BadBudget,
     /// Memory ran out.
     Memory,
@@ -69,7 +67,7 @@ impl<T: Drop> From<AllocFailed<T>> for ConfigFault {
 pub struct Config {
     node: String,
     cluster: String,
-    filters: IndexMap<String, u64>,
+    filters: IndexMap<String, Budget>,
     limits: Limits,
 }
 
@@ -161,7 +159,7 @@ impl Config {
     }
 
     /// The filters' names and budgets, in configured order.
-    pub fn filters(&self) -> &IndexMap<String, u64>
+    pub fn filters(&self) -> &IndexMap<String, Budget>
         ensures { entries_view result.now.entries ≡ self.now.filters }
     {
         &self.filters
@@ -212,7 +210,7 @@ fn check_filter(filter: &Filter) -> Result<(), ConfigFault>
     if filter.name.is_empty() || filter.name.len() > LONGEST_NAME {
         return Err(ConfigFault::BadName);
     }
-    if filter.budget == 0 || filter.budget > LARGEST_BUDGET {
+    if !filter.budget.is_allowed() {
         return Err(ConfigFault::BadBudget);
     }
     Ok(())
@@ -248,7 +246,7 @@ fn has_name(filters: &[Filter], name: &str) -> bool
 }
 
 /// The filters as a map, in the same order. No two have the same name.
-fn ordered(alloc: Global, filters: Vec<Filter>) -> Result<IndexMap<String, u64>, AllocError>
+fn ordered(alloc: Global, filters: Vec<Filter>) -> Result<IndexMap<String, Budget>, AllocError>
     requires { Repeats (filters_view filters.items) → ⊥ }
     ensures { IfOk result (λ m. entries_view m.entries ≡ filters_view filters.items) }
 {

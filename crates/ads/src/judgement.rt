@@ -1,5 +1,6 @@
 //! The judgements of responses, for a log.
 
+use cost_bound::Budget;
 use proto_wire::Fault;
 
 /// The judgement of a response.
@@ -31,4 +32,6 @@ pub struct Refused {
     pub filter: Option<usize>,
     /// The bytes of the filter's message, if it is not admitted; otherwise there are none.
     pub message: Vec<u8>,
+    /// What the conditions before the fault leave of the filter's budget.
+    pub left: Budget,
 }

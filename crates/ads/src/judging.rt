@@ -17,6 +17,7 @@ ghost use Rattle.ads.specs.private.Taking.{IsDoubled, IsFirstUnfit, IsJudged, Ma
 use crate::config::Config;
 use crate::refused::{NotAccepted, RefusalCause, memory_apart};
 use attributes::Limits;
+use cost_bound::Budget;
 use indexmap::IndexMap;
 use proto_wire::Refusal;
 use rbac_policy::{Admitted, admit_at};
@@ -136,7 +137,7 @@ fn require_name(extension: &TypedExtensionConfig<'_>) -> Result<(), Refusal>
 fn take_all<'a>(
     alloc: Global,
     limits: &Limits,
-    filters: &IndexMap<String, u64>,
+    filters: &IndexMap<String, Budget>,
     extensions: &[TypedExtensionConfig<'a>],
 ) -> Result<Vec<Option<Admitted>>, NotAccepted<'a>>
     ensures found { IfOk result (λ given. AllZip
@@ -163,7 +164,7 @@ fn take<'a>(
     alloc: Global,
     limits: &Limits,
     name: &str,
-    budget: u64,
+    budget: Budget,
     extensions: &[TypedExtensionConfig<'a>],
 ) -> Result<Option<Admitted>, RefusalCause<'a>>
     ensures found { IfOk result (λ given. Gives limits.now (filter_of name.now budget)
@@ -207,7 +208,7 @@ fn find<'a>(
 fn admit_extension<'a>(
     alloc: Global,
     limits: &Limits,
-    budget: u64,
+    budget: Budget,
     extension: &TypedExtensionConfig<'a>,
 ) -> Result<Admitted, RefusalCause<'a>>
     ensures found { IfOk result (λ a. (name : List ℕ)
@@ -217,12 +218,14 @@ fn admit_extension<'a>(
         → Unfit limits.now xs (filter_of name budget) e.fault e.message.now) }
 {
     let message = filter_bytes(extension)?;
-    match admit_at(alloc, message, limits, budget) {
+    let mut left = budget;
+    match admit_at(alloc, message, limits, &mut left) {
         Ok(admitted) => Ok(admitted),
         Err(fault) => Err(RefusalCause {
             fault,
             filter: None,
             message,
+            left,
         }),
     }
 }

@@ -5,6 +5,7 @@ ghost use Rattle.proto_wire.specs.declared.refusal.Refusal.TheVariants.{Memory};
 ghost use Rattle.ads.specs.declared.refused.NotAccepted.TheVariants.{NoMemory, Refused};
 ghost use Rattle.ads.specs.private.Taking.{IsWhole, IsWholeRefused};
 
+use cost_bound::Budget;
 use proto_wire::{Fault, Refusal};
 use std::alloc::{AllocError, AllocFailed};
 
@@ -17,6 +18,8 @@ pub(crate) struct RefusalCause<'a> {
     pub(crate) filter: Option<usize>,
     /// The bytes of the filter's message, if it is not admitted.
     pub(crate) message: &'a [u8],
+    /// What the conditions before the fault leave of the filter's budget.
+    pub(crate) left: Budget,
 }
 
 impl<'a> RefusalCause<'a> {
@@ -30,6 +33,7 @@ impl<'a> RefusalCause<'a> {
             fault: self.fault,
             filter: Some(place),
             message: self.message,
+            left: self.left,
         }
     }
 }
@@ -42,6 +46,7 @@ impl<'a> From<Refusal> for RefusalCause<'a> {
             fault: Fault::from(refusal),
             filter: None,
             message: &[],
+            left: Budget::nothing(),
         }
     }
 }

@@ -10,6 +10,7 @@ ghost use Rattle.ads.specs.private.Drafts.{AddsFrame};
 
 use crate::config::Config;
 use crate::judging::EXTENSION_TYPE;
+use cost_bound::Budget;
 use indexmap::IndexMap;
 use proto_wire::Refusal;
 use std::alloc::{AllocError, Global};
@@ -135,7 +136,10 @@ fn put_frame(
 }
 
 /// The names of the filters, in configured order.
-fn names<'a>(alloc: Global, filters: &'a IndexMap<String, u64>) -> Result<Vec<&'a str>, AllocError>
+fn names<'a>(
+    alloc: Global,
+    filters: &'a IndexMap<String, Budget>,
+) -> Result<Vec<&'a str>, AllocError>
     ensures { IfOk result (λ v. texts_view v.items ≡ names_of (entries_view filters.now.entries)) }
 {
     let mut names = Vec::new(alloc);

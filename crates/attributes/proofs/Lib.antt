@@ -18,6 +18,7 @@ pub mod AddressText
 pub mod OneAddress
 pub mod Facts
 pub mod LimitFaults
+pub mod Within
 pub mod StandardFacts
 pub mod Names
 pub mod TypedAttributes

@@ -1,5 +1,5 @@
 -- The parts of a request make the request of its head and its facts.
-use Rattle.std.proofs.Common.{◌≡◌, ℕ, ◌+◌, ◌<◌, ◌≤◌, ◌^◌, All, Bool, List, ◌++◌, length, map, sym, ap, ap₂, ◌∙◌, arith, length-append}
+use Rattle.std.proofs.Common.{◌≡◌, ℕ, ◌+◌, ◌<◌, ◌≤◌, ◌^◌, All, List, ◌++◌, length, map, sym, ap, ap₂, ◌∙◌, arith, length-append}
 use Rattle.std.specs.FinMap.{entries, from_sorted, len}
 use Rattle.std.specs.Str.{IsUtf8}
 use Rattle.std.proofs.lemmas.List.{length-map}
@@ -10,6 +10,7 @@ use Rattle.attributes.specs.Headers.{Entry, HeaderMap, headers_of, line_entry, n
 use Rattle.attributes.specs.Request.{IsRequest, IsTextEntry, RequestValue, request_of}
 use Rattle.attributes.specs.declared.headers.Field.{Field}
 use Rattle.attributes.specs.declared.part.Spot.{Spot}
+use Rattle.attributes.specs.declared.protocol.Protocol.{Protocol}
 use Rattle.attributes.specs.private.Drafts.{own_entries}
 use Rattle.attributes.specs.private.Parts.{AreFields, IsField, IsSpotOf, entries_in, entry_in, spot_of}
 use Rattle.attributes.specs.private.Request.{IsKept, of_parts}
@@ -23,7 +24,7 @@ text_fields t fs h = All-map IsTextEntry (entry_in t) fs
     (All-weaker (IsField t) (λ f. IsTextEntry (entry_in t f))
     (λ f held. (held.name.utf8, held.value.utf8)) fs h)
 
-module _ (method target : List ℕ) (http11 : Bool) (es kept : List Entry) (facts : Facts) (n : ℕ)
+module _ (method target : List ℕ) (protocol : Protocol) (es kept : List Entry) (facts : Facts) (n : ℕ)
     (count : n ≡ length es)
     (joined : kept ≡ entries (headers_of (es ++ own_entries method target facts.scheme))) where
   abbrev all : List Entry
@@ -34,12 +35,12 @@ module _ (method target : List ℕ) (http11 : Bool) (es kept : List Entry) (fact
 
   -- they make the request of lines that are these entries
   same_request : (lines : List Entry) → es ≡ map line_entry lines
-      → of_parts method target http11 n kept facts ≡ request_of method target http11 lines facts
+      → of_parts method target protocol n kept facts ≡ request_of method target protocol lines facts
   same_request lines named =
       let make : ℕ → HeaderMap → RequestValue = λ m headers. record {
         method = method;
         target = target;
-        http11 = http11;
+        protocol = protocol;
         lines = m;
         headers = headers;
         facts = facts;
@@ -60,7 +61,7 @@ module _ (method target : List ℕ) (http11 : Bool) (es kept : List Entry) (fact
 
   -- and it is a request
   sound_request : IsUtf8 method → IsUtf8 target → All IsTextEntry kept → AreFacts facts → n < 2 ^ 64
-      → IsRequest (of_parts method target http11 n kept facts)
+      → IsRequest (of_parts method target protocol n kept facts)
   sound_request method_text target_text texts sound fits = record {
     method = method_text;
     target = target_text;
@@ -76,7 +77,7 @@ module _ (method target : List ℕ) (http11 : Bool) (es kept : List Entry) (fact
     pub request_kept : IsSpotOf kept path_spot (url_path_of target)
         → IsSpotOf kept query_spot (query_of target) → All IsTextEntry kept → AreFacts facts
         → n < 2 ^ 64
-        → IsKept (of_parts (spot_of kept m) (spot_of kept t) http11 n kept facts)
+        → IsKept (of_parts (spot_of kept m) (spot_of kept t) protocol n kept facts)
         kept m t path_spot query_spot
     request_kept path query texts sound fits =
         let method_text : IsUtf8 method = rw method_at.same at method_at.spot.utf8 in
@@ -91,6 +92,6 @@ module _ (method target : List ℕ) (http11 : Bool) (es kept : List Entry) (fact
         })
 
     pub request_same : (lines : List Entry) → es ≡ map line_entry lines
-        → of_parts (spot_of kept m) (spot_of kept t) http11 n kept facts
-        ≡ request_of method target http11 lines facts
+        → of_parts (spot_of kept m) (spot_of kept t) protocol n kept facts
+        ≡ request_of method target protocol lines facts
     request_same lines named = rw (method_at.same, target_at.same) (same_request lines named)

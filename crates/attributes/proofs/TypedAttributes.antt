@@ -13,6 +13,8 @@ use Rattle.attributes.specs.Conn.{IsPort}
 use Rattle.attributes.specs.Request.{IsRequest, IsTextEntry, RequestValue, header_of, protocol_of}
 use Rattle.attributes.specs.declared.attribute.AttrId.{AttrId}
 use Rattle.attributes.specs.declared.attribute.AttrType.{AttrType}
+use Rattle.attributes.specs.declared.protocol.Protocol.{Protocol}
+use Rattle.attributes.specs.declared.protocol.Protocol.TheVariants.{Http10, Http11, Http2, Http3}
 use Rattle.attributes.proofs.HeaderMaps.{all_get}
 
 module _ (c : ℕ) (ascii : c < 128) (bs : List ℕ) (texts : IsUtf8 bs) where
@@ -52,10 +54,12 @@ module _ (target : List ℕ) (sound : IsUtf8 target) where
   query_text = is_utf8_after_first 63 (lit< tt) _ whole_text
 
 module _ (r : RequestValue) (sound : IsRequest r) where
-  protocol_text : (b : Bool) → IsUtf8 (protocol_of b)
+  protocol_text : (p : Protocol) → IsUtf8 (protocol_of p)
   unfolding lib.Utf8.encode
-  protocol_text true = (codes "HTTP/1.1", (refl, refl))
-  protocol_text false = (codes "HTTP/1.0", (refl, refl))
+  protocol_text Http10 = (codes "HTTP/1.0", (refl, refl))
+  protocol_text Http11 = (codes "HTTP/1.1", (refl, refl))
+  protocol_text Http2 = (codes "HTTP/2", (refl, refl))
+  protocol_text Http3 = (codes "HTTP/3", (refl, refl))
 
   header_text : (name : List ℕ) → IfSome (header_data r name) (HasAttrType AttrType.Text)
   header_text name = elim (header_of r name) as (λ o. header_of r name ≡ o
@@ -94,7 +98,7 @@ module _ (r : RequestValue) (sound : IsRequest r) where
   attr_typed AttrId.RequestReferer = header_text (codes "referer")
   attr_typed AttrId.RequestUseragent = header_text (codes "user-agent")
   attr_typed AttrId.RequestId = header_text (codes "x-request-id")
-  attr_typed AttrId.RequestProtocol = protocol_text r.http11
+  attr_typed AttrId.RequestProtocol = protocol_text r.protocol
   attr_typed AttrId.RequestQuery = query_text r.target sound.target
   attr_typed AttrId.SourceAddress = fact_text r.facts.source_address sound.facts.texts.0
   attr_typed AttrId.SourcePort = port_type r.facts.source_port sound.facts.source_port

@@ -1,6 +1,6 @@
--- IP addresses as text and as numbers: RFC 4291 sections 2.2 and 2.3, RFC 4632 section 3.1
--- (ranges); IPv4 as in RFC 3986 section 3.2.2.
-use Rattle.std.specs.Prelude.{◌≡◌, ℕ, ◌-◌, ◌/◌, ◌^◌, ◌<◌, List, Bool, false, ◌==◌}
+-- IP addresses as text and as numbers: RFC 4291 sections 2.2, 2.3 and 2.5.5.2, RFC 4632 section 3.1
+-- (ranges). IPv4 is as in RFC 3986 section 3.2.2.
+use Rattle.std.specs.Prelude.{◌≡◌, ℕ, ◌-◌, ◌/◌, ◌%◌, ◌^◌, ◌<◌, List, Bool, false, ◌==◌, if◌then◌else◌}
 use Rattle.std.specs.List.{list_any}
 use Rattle.std.specs.Net.Addr.{ipv4_bits, ipv6_bits}
 use Rattle.std.specs.Net.Grammar.{IsIpv4Text, IsIpv6Text}
@@ -19,6 +19,12 @@ abbrev pub IsIpText : List ℕ → Ip → Type 0
 IsIpText text (V4 n) = (a : Ipv4Addr) × IsIpv4Text text a × (n ≡ ipv4_bits a)
 IsIpText text (V6 n) =
     (a : Ipv6Addr) × IsIpv6Text text a × (has_dot text ≡ false) × (n ≡ ipv6_bits a)
+
+-- the address in one form: an IPv4 address that is written as one of IPv6 is one of IPv4. Such an
+-- address of IPv6 begins with 80 bits 0 and 16 bits 1
+abbrev pub unmapped : Ip → Ip
+unmapped (V4 n) = V4 n
+unmapped (V6 n) = if n / 2 ^ 32 == 65535 then V4 (n % 2 ^ 32) else V6 n
 
 -- the number of bits of an address, by its family
 abbrev pub width_of : Ip → ℕ

@@ -1,6 +1,7 @@
 -- The facts of a connection: the connection attributes of Envoy, "Attributes", and the addresses
--- for CIDR ranges.
-use Rattle.std.specs.Prelude.{ℕ, ◌^◌, ◌<◌, Option, Some, None, List, [], ◌∷◌, IfSome, option_map}
+-- for CIDR ranges. Names of servers: RFC 6066 section 3.
+use Rattle.std.specs.Prelude.{ℕ, ◌^◌, ◌<◌, Option, Some, None, List, [], ◌∷◌, IfSome, map, option_map}
+use Rattle.std.specs.Char.{to_ascii_lowercase}
 use Rattle.std.specs.List.{AllByRecursion}
 use Rattle.std.specs.Str.{IsUtf8}
 use Rattle.std.specs.Arc.{arc_str_bytes}
@@ -34,6 +35,10 @@ pub record AreFacts (f : Facts) : Type 0 where
   pub direct_remote_ip : IfSome f.direct_remote_ip IsAddress
   pub remote_ip : IfSome f.remote_ip IsAddress
   pub destination_ip : IfSome f.destination_ip IsAddress
+
+-- the name of a server in one form, with A to Z in lower case: a client may ask for it in any case
+abbrev pub server_name : List ℕ → List ℕ
+server_name name = map to_ascii_lowercase name
 
 -- the bytes of an optional text
 abbrev pub text_view : Option (ArcStr Global) → Option (List ℕ)

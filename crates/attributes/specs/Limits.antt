@@ -93,5 +93,5 @@ pub record InLimits (r : RequestValue) (l : LimitsValue) : Type 0 where
   pub headers : All (EntryInLimits l) (entries r.headers)
   pub method : length r.method ≤ l.method
   pub target : length r.target ≤ l.target
-  pub protocol : length (protocol_of r.http11) ≤ l.text
+  pub protocol : length (protocol_of r.protocol) ≤ l.text
   pub facts : FactsInLimits r.facts l

@@ -1,17 +1,19 @@
--- A request as values: RFC 9112 section 3 (request line), RFC 9110 section 5 (fields), Envoy,
--- "Attributes".
+-- A request as values: RFC 9112 section 3 (request line), RFC 9110 sections 2.5 (protocol) and 5
+-- (fields), Envoy, "Attributes".
 use Rattle.std.specs.Prelude.{ℕ, ◌+◌, ◌<◌, ◌≤◌, ◌^◌, All, Bool, List, Option, codes, if◌then◌else◌, length}
 use Rattle.std.specs.FinMap.{entries, get, len}
 use Rattle.std.specs.Str.{IsUtf8}
 use Rattle.attributes.specs.Conn.{AreFacts, Facts}
 use Rattle.attributes.specs.Headers.{Entry, HeaderMap, all_entries, headers_of}
+use Rattle.attributes.specs.declared.protocol.Protocol.{Protocol}
+use Rattle.attributes.specs.declared.protocol.Protocol.TheVariants.{Http10, Http11, Http2, Http3}
 
 -- a request; `lines` is the number of its field lines, and `headers` are all its headers,
 -- pseudo-headers included
 pub record RequestValue : Type 0 where
   pub method : List ℕ
   pub target : List ℕ
-  pub http11 : Bool
+  pub protocol : Protocol
   pub lines : ℕ
   pub headers : HeaderMap
   pub facts : Facts
@@ -38,17 +40,28 @@ pub record IsRequest (r : RequestValue) : Type 0 where
 abbrev pub header_of : RequestValue → List ℕ → Option (List ℕ)
 header_of r name = get r.headers name
 
--- the version of the protocol as text
-abbrev pub protocol_of : Bool → List ℕ
-protocol_of http11 = if http11 then codes "HTTP/1.1" else codes "HTTP/1.0"
+-- a protocol as text, as Envoy has it in `request.protocol`
+abbrev pub protocol_of : Protocol → List ℕ
+protocol_of Http10 = codes "HTTP/1.0"
+protocol_of Http11 = codes "HTTP/1.1"
+protocol_of Http2 = codes "HTTP/2"
+protocol_of Http3 = codes "HTTP/3"
 
--- the request of a head on a connection with these facts
-abbrev pub request_of : (method target : List ℕ) → Bool → List Entry → Facts → RequestValue
-request_of method target http11 lines facts = record {
+-- the protocol of a head of HTTP/1, which is HTTP/1.1 or, if not, HTTP/1.0 (RFC 9112 section 2.3)
+abbrev pub head_protocol : Bool → Protocol
+head_protocol http11 = if http11 then Http11 else Http10
+
+-- the request of these parts on a connection with these facts
+abbrev pub request_of : (method target : List ℕ) → Protocol → List Entry → Facts → RequestValue
+request_of method target protocol lines facts = record {
   method = method;
   target = target;
-  http11 = http11;
+  protocol = protocol;
   lines = length lines;
   headers = headers_of (all_entries method target facts.scheme lines);
   facts = facts;
 }
+
+-- the same request, of another protocol
+abbrev pub in_protocol : Protocol → RequestValue → RequestValue
+in_protocol protocol r = record r { protocol = protocol }

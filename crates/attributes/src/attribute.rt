@@ -32,7 +32,7 @@ pub enum AttrId {
     RequestUseragent,
     /// The header `x-request-id`.
     RequestId,
-    /// `HTTP/1.1` or `HTTP/1.0`.
+    /// `HTTP/1.0`, `HTTP/1.1`, `HTTP/2` or `HTTP/3`.
     RequestProtocol,
     /// The target between its first `?` and the first `#` after it.
     RequestQuery,
@@ -191,7 +191,7 @@ impl Request {
             AttrId::RequestReferer => text_value(self.header("referer")),
             AttrId::RequestUseragent => text_value(self.header("user-agent")),
             AttrId::RequestId => text_value(self.header("x-request-id")),
-            AttrId::RequestProtocol => Some(AttrValue::Text(self.protocol())),
+            AttrId::RequestProtocol => Some(AttrValue::Text(self.protocol().text())),
             AttrId::RequestQuery => Some(AttrValue::Text(self.query())),
             AttrId::SourceAddress => text_value(lent_text(&conn.source_address)),
             AttrId::SourcePort => port_value(conn.source_port),

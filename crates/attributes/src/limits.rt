@@ -233,11 +233,11 @@ impl Limits {
     fn fits_head(&self, request: &Request) -> bool
         ensures { IsTrue result ↔ ((length request.now.method ≤ self.now.method)
             × (length request.now.target ≤ self.now.target)
-            × (length (protocol_of request.now.http11) ≤ self.now.text)) }
+            × (length (protocol_of request.now.protocol) ≤ self.now.text)) }
     {
         request.method().len() <= self.method
             && request.target().len() <= self.target
-            && request.protocol().len() <= self.text
+            && request.protocol().text().len() <= self.text
     }
 
     // Whether each header's name and value are within their limits.

@@ -1,5 +1,5 @@
 //! Headers by ascending name, and the search for a name.
-ghost use Rattle.std.specs.Prelude.{◌≡◌, ◌<◌, ◌≤◌, ◌+◌, ◌++◌, ◌-◌, ◌↔◌, ℕ, List, All, IfOk, IfSome, IsSome, IsTrue, IsUtf8, None, Some, length, slice_get};
+ghost use Rattle.std.specs.Prelude.{◌≡◌, ◌<◌, ◌≤◌, ◌+◌, ◌++◌, ◌-◌, ◌↔◌, ℕ, List, All, IfOk, IfSome, IsSome, IsTrue, IsUtf8, None, Some, length, option_map, slice_get};
 ghost use Rattle.std.specs.FinMap.{find, is_sorted};
 ghost use Rattle.std.specs.List.Sorted.{IsSearchInRange};
 ghost use Rattle.attributes.specs.Headers.{Entry, header_view, headers_view, name_cmp};
@@ -55,7 +55,7 @@ impl Headers {
     /// The header at this index: its name and its value.
     #[inline(always)]
     pub fn get(&self, index: usize) -> Option<(&str, &str)>
-        ensures { lent_entry result ≡ slice_get self.now index }
+        ensures { option_map (λ e. (e.0.now, e.1.now)) result ≡ slice_get self.now index }
     {
         get_field(self.text.as_slice(), self.fields.as_slice(), index)
     }
@@ -70,7 +70,7 @@ impl Headers {
 
     /// The value of the header of this name.
     pub fn find(&self, name: &str) -> Option<&str>
-        ensures value { lent_view result ≡ find name_cmp name.now self.now }
+        ensures value { option_map (λ text. text.now) result ≡ find name_cmp name.now self.now }
         ensures texts { All IsTextEntry self.now }
     {
         find_value(self.text.as_slice(), self.fields.as_slice(), name)

@@ -7,7 +7,7 @@ ghost use Rattle.std.specs.String.{string_bytes};
 ghost use Rattle.attributes.specs.Attributes.{query_of, url_path_of};
 ghost use Rattle.attributes.specs.Conn.{conn_view};
 ghost use Rattle.attributes.specs.Headers.{Entry, headers_of, line_entry, lines_view};
-ghost use Rattle.attributes.specs.Request.{IsRequest, IsTextEntry, header_of, protocol_of, request_of};
+ghost use Rattle.attributes.specs.Request.{IsRequest, IsTextEntry, header_of, in_protocol, request_of};
 ghost use Rattle.attributes.specs.private.Parts.{AreFields, entries_in};
 ghost use Rattle.attributes.specs.private.Request.{IsCut};
 
@@ -16,11 +16,12 @@ use crate::draft::{Draft, Room, add_lines, add_own};
 use crate::headers::{Field, join_sorted, sort_by_name};
 use crate::lookup::Headers;
 use crate::part::Spot;
+use crate::protocol::Protocol;
 use std::alloc::{AllocError, Global};
 use std::marker::Model;
 use std::sync::Arc;
 
-/// A request: its method, target, version and headers, and the facts of its connection. Its texts
+/// A request: its method, target, protocol and headers, and the facts of its connection. Its texts
 /// are parts of one text, that of the headers.
 #[derive(Debug, Drop)]
 pub struct Request {
@@ -32,7 +33,7 @@ pub struct Request {
     url_path: Spot,
     query: Spot,
     lines: usize,
-    http11: bool,
+    protocol: Protocol,
     conn: Arc<Conn>,
 }
 
@@ -40,6 +41,7 @@ impl Model for Request {
     ghost use Rattle.attributes.specs.Conn.{conn_view};
     ghost use Rattle.attributes.specs.Request.{RequestValue};
     ghost use Rattle.attributes.specs.contracts.address.Ip as ip;
+    ghost use Rattle.attributes.specs.contracts.protocol.Protocol as protocols;
     ghost use Rattle.std.specs.Coded.{codes};
     ghost use Rattle.attributes.specs.private.Headers.{header_map_code};
     ghost use Rattle.attributes.specs.private.Parts.{spot_of};
@@ -47,33 +49,32 @@ impl Model for Request {
 
     ghost Value = { RequestValue };
 
-    ghost coded = { Prim.hlevel (codes, header_map_code, ip.the_row.coded) };
+    ghost coded = { Prim.hlevel (codes, header_map_code, ip.the_row.coded, protocols.the_row.coded) };
 
     ghost view = { λ r. of_parts (spot_of r.headers r.method) (spot_of r.headers r.target)
-        r.http11 r.lines r.headers (conn_view r.conn.value) };
+        r.protocol r.lines r.headers (conn_view r.conn.value) };
 
     ghost invariant = { λ r. IsKept
         (of_parts (spot_of r.headers r.method) (spot_of r.headers r.target)
-        r.http11 r.lines r.headers (conn_view r.conn.value))
+        r.protocol r.lines r.headers (conn_view r.conn.value))
         r.headers r.method r.target r.url_path r.query };
 }
 
 impl Request {
     /// A request with these field lines in order of arrival, each a name in lower case and a value.
-    /// It is of HTTP/1.1 or, if not, of HTTP/1.0. The values of one name are joined with `,` (RFC
-    /// 9110 section 5.3). The Host field becomes `:authority`, and `:method`, `:path` and `:scheme`
+    /// The values of one name are joined with `,` (RFC 9110 section 5.3). The Host field becomes `:authority`, and `:method`, `:path` and `:scheme`
     /// are added. The caller gives names without a colon, and at most one Host; then no line is
     /// joined to a pseudo-header.
     pub fn new(
         alloc: Global,
         method: String,
         target: String,
-        http11: bool,
+        protocol: Protocol,
         lines: Vec<(String, String)>,
         conn: Conn,
     ) -> Result<Request, AllocError>
         ensures { IfOk result (λ r. r ≡ request_of (string_bytes method) (string_bytes target)
-            http11 (lines_view lines.items) (conn_view conn)) }
+            protocol (lines_view lines.items) (conn_view conn)) }
     {
         let room = Room {
             lines: lines.len(),
@@ -82,7 +83,7 @@ impl Request {
         let conn = Arc::new(alloc, conn)?;
         let mut draft = Draft::new(alloc, method.as_str(), target.as_str(), room)?;
         add_lines(&mut draft, lines.as_slice())?;
-        draft.finish(alloc, http11, conn)
+        draft.finish(alloc, protocol, conn)
     }
 
     /// The method, as it was sent.
@@ -106,11 +107,18 @@ impl Request {
         self.headers.text_of(self.url_path)
     }
 
-    /// Whether the version is HTTP/1.1; else it is HTTP/1.0.
-    pub fn is_http11(&self) -> bool
-        ensures { result ≡ self.now.http11 }
+    /// The protocol.
+    pub fn protocol(&self) -> Protocol
+        ensures { result ≡ self.now.protocol }
     {
-        self.http11
+        self.protocol
+    }
+
+    /// The same request, of another protocol.
+    pub fn in_protocol(self, protocol: Protocol) -> Request
+        ensures { result ≡ in_protocol protocol self }
+    {
+        Request { protocol, ..self }
     }
 
     /// The number of field lines, before values of one name are joined.
@@ -148,21 +156,19 @@ impl Request {
     {
         self.headers.text_of(self.query)
     }
-
-    pub(crate) fn protocol(&self) -> &'static str
-        ensures { result.now ≡ protocol_of self.now.http11 }
-    {
-        protocol_text(self.http11)
-    }
 }
 
 impl Draft {
-    /// The request of this draft, of HTTP/1.1 or, if not, of HTTP/1.0. The values of one name are
-    /// joined with `,` (RFC 9110 section 5.3). The pseudo-headers `:method`, `:path` and `:scheme`
-    /// are added.
-    pub fn finish(self, alloc: Global, http11: bool, conn: Arc<Conn>) -> Result<Request, AllocError>
+    /// The request of this draft. The values of one name are joined with `,` (RFC 9110 section
+    /// 5.3). The pseudo-headers `:method`, `:path` and `:scheme` are added.
+    pub fn finish(
+        self,
+        alloc: Global,
+        protocol: Protocol,
+        conn: Arc<Conn>,
+    ) -> Result<Request, AllocError>
         ensures { IfOk result (λ r. (lines : List Entry) → self.entries ≡ map line_entry lines
-            → r ≡ request_of self.method self.target http11 lines (conn_view conn.value)) }
+            → r ≡ request_of self.method self.target protocol lines (conn_view conn.value)) }
     {
         facts_are_sound(&conn);
         let Draft {
@@ -185,7 +191,7 @@ impl Draft {
             url_path: cut.url_path(target),
             query: cut.query(target),
             lines,
-            http11,
+            protocol,
             conn,
         })
     }
@@ -259,12 +265,6 @@ fn cut_target(target: &str) -> CutPlaces
         query_from: whole.len() - query.len(),
         query_to: whole.len(),
     }
-}
-
-fn protocol_text(http11: bool) -> &'static str
-    ensures { result.now ≡ protocol_of http11 }
-{
-    if http11 { "HTTP/1.1" } else { "HTTP/1.0" }
 }
 
 // The text before the first such character; the whole text if there is none.

@@ -1,16 +1,17 @@
 -- What the single steps of the check come to.
-use Rattle.std.proofs.Common.{nat_lt, arith, ◌≤◌, max, rules, ◌≡◌, ◌<◌, ◌+◌, ◌-◌, ◌&&◌, ℕ, Bool, Bor, true, false, List, [], ◌∷◌, ◌++◌, drop, take, length, get_or, Option, Some, None, refl, sym, ap, ap₂, ◌∙◌}
+use Rattle.std.proofs.Common.{nat_lt, arith, ◌≤◌, rules, ◌≡◌, ◌<◌, ◌+◌, ◌-◌, ◌&&◌, ℕ, ℤ, Bool, Bor, true, false, List, [], ◌∷◌, ◌++◌, drop, take, length, get_or, Option, Some, None, refl, sym, ap, ap₂, ◌∙◌}
 use Rattle.std.proofs.lemmas.List.{drop_more, length-drop, map-append, take_all, take_more}
 use Rattle.std.specs.Prelude.{is_some, IsTrue, IsUtf8, ◌==◌}
 use Rattle.cel_overload.specs.View.{types_of}
 use Rattle.proto_wire.specs.declared.refusal.Refusal.{Refusal}
-use Rattle.std.proofs.Math.Nat.{le-max_left, le-max_right, max-le}
+use Rattle.std.specs.Option.{option_or}
 use Rattle.std.proofs.lemmas.Bool.Decides.{nat_tests}
 use Rattle.std.specs.Str.{bytes_eq}
 use Rattle.std.specs.declared.alloc.Global.{Global}
 use Rattle.std.specs.declared.boxed.Box.{Box}
 use Rattle.std.specs.declared.vec.Vec.{Vec}
 use Rattle.cel_overload.specs.declared.overload.Overload.{Overload}
+use Rattle.cel_tree.specs.Tree.{CelTree, constant, ident, select, call, list_literal, map_literal, comprehension}
 use Rattle.cel_tree.specs.View.{target_of, tree_view}
 use Rattle.cel_tree.specs.private.TreeViews.{boxed_view, tree_entries_view, trees_view}
 use Rattle.cel_tree.specs.declared.tree.Tree.{Tree}
@@ -22,7 +23,7 @@ use Rattle.cel_value.specs.Types.{ValueType, type_eq, type_view}
 use Rattle.cel_value.specs.declared.cel_type.CelType.{CelType}
 use Rattle.cel_types.specs.Elaborated.{kind, kinds, typed_call, typed_list, typed_map}
 use Rattle.cel_types.specs.Names.{local}
-use Rattle.cel_types.specs.Typing.{IsMap, Kinds, has_target, locals_in, locals_in_each, locals_in_entries, name_type}
+use Rattle.cel_types.specs.Typing.{IsMap, Kinds, has_target, most_locals, name_type}
 use Rattle.cel_types.specs.View.{expr_view, loop_of}
 use Rattle.cel_types.specs.private.ExprViews.{exprs_view, parts_view}
 use Rattle.cel_check.specs.declared.checker.names.Name.{Name}
@@ -32,7 +33,8 @@ use Rattle.cel_types.specs.declared.typed.TypedExpr.{TypedExpr, the_lemmas as ex
 use Rattle.cel_types.specs.declared.typed.TypedExpr as exprs
 use Rattle.cel_types.specs.declared.typed.TypedLoop.{TypedLoop}
 use Rattle.cel_check.specs.private.Kinds.{IsMapOf, NoMapOf, NotStated, in_turn}
-use Rattle.cel_check.specs.private.Scopes.{IsName, name_view, scope_view}
+use Rattle.cel_check.specs.Places.{first_crowded, first_crowded_each, first_crowded_entry, id_of}
+use Rattle.cel_check.specs.private.Scopes.{IsName, crowded_inside, name_view, scope_view}
 use Rattle.cel_types.proofs.CheckNames.{empty_name}
 
 pub view_empty : scope_view Empty ≡ []
@@ -83,58 +85,56 @@ empty_same bs u b e =
       ] both.0
     ] (empty_name bs u b e)
 
--- the greater of two numbers is below a third where both are
-pub max_below : (a b n : ℕ) → nat_lt (max a b) n ≡ (nat_lt a n && nat_lt b n)
-max_below a b n = at (nat_lt a n) refl (nat_lt b n) refl
-  where
-    at : (p : Bool) → nat_lt a n ≡ p → (q : Bool) → nat_lt b n ≡ q → nat_lt (max a b) n ≡ (p && q)
-    at true d true e =
-        let first : a < n = grind (arith, nat_tests) in
-        let second : b < n = grind (arith, nat_tests) in
-        let most : max a b ≤ n - 1 = max-le {k = n - 1} (omega arith) (omega arith) in
-        let below : max a b < n = omega (arith, most, first) in
-        grind (arith, nat_tests)
-    at true d false e =
-        let second : n ≤ b = grind (arith, nat_tests) in
-        let most = le-max_right a b in
-        let past : n ≤ max a b = omega (arith, most, second) in
-        grind (arith, nat_tests)
-    at false d q e =
-        let first : n ≤ a = grind (arith, nat_tests) in
-        let most = le-max_left a b in
-        let past : n ≤ max a b = omega (arith, most, first) in
-        grind (arith, nat_tests)
+-- ---- nodes that have too many locals in scope
 
--- so are those of trees from one place on
-pub few_at : (ts : List Tree) (i : ℕ) (d : Tree) (n : ℕ) (b : Bool) → i < length ts
-    → d ≡ get_or ts i d → nat_lt (locals_in (tree_view d)) n ≡ b
-    → nat_lt (locals_in_each (trees_view (drop i ts))) n ≡ nat_lt (locals_in_each (trees_view ts)) n
-    → (b && nat_lt (locals_in_each (trees_view (drop (i + 1) ts))) n)
-    ≡ nat_lt (locals_in_each (trees_view ts)) n
-few_at ts i d n b within is here so_far =
-    ap (λ x. x && nat_lt (locals_in_each (trees_view (drop (i + 1) ts))) n)
-    (sym here ∙ ap (λ t. nat_lt (locals_in (tree_view t)) n) is)
-    ∙ sym (max_below (locals_in (tree_view (get_or ts i d)))
-    (locals_in_each (trees_view (drop (i + 1) ts))) n)
-    ∙ ap (λ l. nat_lt (locals_in_each (trees_view l)) n) (sym (drop_more ts i d within)) ∙ so_far
+pub below_none : (n : ℕ) → most_locals < n → nat_lt most_locals n ≡ true
+below_none n many = grind (arith, nat_tests)
 
-pub few_entries_at : (es : List TreeEntry) (i : ℕ) (d : TreeEntry) (n : ℕ) (b c : Bool)
-    → i < length es → d ≡ get_or es i d → nat_lt (locals_in (tree_view d.key)) n ≡ b
-    → nat_lt (locals_in (tree_view d.value)) n ≡ c
-    → nat_lt (locals_in_entries (tree_entries_view (drop i es))) n
-    ≡ nat_lt (locals_in_entries (tree_entries_view es)) n
-    → (b && (c && nat_lt (locals_in_entries (tree_entries_view (drop (i + 1) es))) n))
-    ≡ nat_lt (locals_in_entries (tree_entries_view es)) n
-few_entries_at es i d n b c within is key value so_far =
-    let k = locals_in (tree_view (get_or es i d).key) in
-    let v = locals_in (tree_view (get_or es i d).value) in
-    let o = locals_in_entries (tree_entries_view (drop (i + 1) es)) in
-    ap₂ (λ x y. x && (y && nat_lt o n))
-    (sym key ∙ ap (λ t. nat_lt (locals_in (tree_view t.key)) n) is)
-    (sym value ∙ ap (λ t. nat_lt (locals_in (tree_view t.value)) n) is)
-    ∙ ap (λ x. nat_lt k n && x) (sym (max_below v o n)) ∙ sym (max_below k (max v o) n)
-    ∙ ap (λ l. nat_lt (locals_in_entries (tree_entries_view l)) n) (sym (drop_more es i d within))
-    ∙ so_far
+-- if the expression itself has too many, it is named
+pub here_first : (n : ℕ) (t : CelTree) → most_locals < n → Some (id_of t) ≡ first_crowded n t
+here_first n (constant id v) many = rw (below_none n many) refl
+here_first n (ident id name) many = rw (below_none n many) refl
+here_first n (select id operand field test_only) many = rw (below_none n many) refl
+here_first n (call id name on args) many = rw (below_none n many) refl
+here_first n (list_literal id elements) many = rw (below_none n many) refl
+here_first n (map_literal id entries) many = rw (below_none n many) refl
+here_first n (comprehension id x y acc range init condition step result) many = rw (below_none n many) refl
+
+pub at_most : (n : ℕ) → n ≤ most_locals → nat_lt most_locals n ≡ false
+at_most n few = grind (arith, nat_tests)
+
+-- otherwise the first node inside that has too many is named
+pub inside_first : (n : ℕ) (t : CelTree) → n ≤ most_locals → crowded_inside n t ≡ first_crowded n t
+inside_first n (constant id v) few = rw (at_most n few) refl
+inside_first n (ident id name) few = rw (at_most n few) refl
+inside_first n (select id operand field test_only) few = rw (at_most n few) refl
+inside_first n (call id name on args) few = rw (at_most n few) refl
+inside_first n (list_literal id elements) few = rw (at_most n few) refl
+inside_first n (map_literal id entries) few = rw (at_most n few) refl
+inside_first n (comprehension id x y acc range init condition step result) few = rw (at_most n few) refl
+
+-- the first of trees from one place on
+pub crowded_at : (ts : List Tree) (i : ℕ) (d : Tree) (n : ℕ) (found : Option ℤ) → i < length ts → d ≡ get_or ts i d
+    → found ≡ first_crowded n (tree_view d)
+    → first_crowded_each n (trees_view (drop i ts)) ≡ first_crowded_each n (trees_view ts)
+    → option_or found (first_crowded_each n (trees_view (drop (i + 1) ts))) ≡ first_crowded_each n (trees_view ts)
+crowded_at ts i d n found within is here so_far =
+    ap (λ x. option_or x (first_crowded_each n (trees_view (drop (i + 1) ts))))
+    (here ∙ ap (λ t. first_crowded n (tree_view t)) is)
+    ∙ ap (λ l. first_crowded_each n (trees_view l)) (sym (drop_more ts i d within)) ∙ so_far
+
+-- the first of entries from one place on
+pub crowded_entry_at : (es : List TreeEntry) (i : ℕ) (d : TreeEntry) (n : ℕ) (key value : Option ℤ) → i < length es
+    → d ≡ get_or es i d → key ≡ first_crowded n (tree_view d.key) → value ≡ first_crowded n (tree_view d.value)
+    → first_crowded_entry n (tree_entries_view (drop i es)) ≡ first_crowded_entry n (tree_entries_view es)
+    → option_or key (option_or value (first_crowded_entry n (tree_entries_view (drop (i + 1) es))))
+    ≡ first_crowded_entry n (tree_entries_view es)
+crowded_entry_at es i d n key value within is here there so_far =
+    let rest = first_crowded_entry n (tree_entries_view (drop (i + 1) es)) in
+    ap₂ (λ x y. option_or x (option_or y rest))
+    (here ∙ ap (λ t. first_crowded n (tree_view t.key)) is)
+    (there ∙ ap (λ t. first_crowded n (tree_view t.value)) is)
+    ∙ ap (λ l. first_crowded_entry n (tree_entries_view l)) (sym (drop_more es i d within)) ∙ so_far
 
 -- ---- how expressions are seen
 

@@ -1,3 +1,4 @@
 pub mod Checking
 pub mod CheckSteps
+pub mod Crowded
 pub mod PlaceLaws

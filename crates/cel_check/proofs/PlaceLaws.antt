@@ -17,6 +17,7 @@ use Rattle.cel_types.specs.TypingFaults.{in_names, no_elements, no_condition, no
 use Rattle.cel_types.specs.TypingFaults as faults
 use Rattle.cel_check.specs.Places.{OwnFault, TypeFaultAt, TargetFaultAt, SomeFaultAt, PairFaultAt, CheckFaultAt, too_many_locals, untyped, id_of}
 use Rattle.cel_check.specs.private.Checks.{InsideAt, PlacedInside}
+use Rattle.cel_check.proofs.Crowded.{some_many}
 
 -- ---- a fault at its place is one
 
@@ -158,7 +159,8 @@ mutual
   pair_fails m ks (tree_entry id k v es) path e (inr (inr bad)) = inr (inr (pair_fails m ks es path e bad))
 
 pub check_fails : (c : CelChecked) (path : Path) (e : Refusal) → CheckFaultAt c path e → CheckFault c e
-check_fails c path e (too_many_locals many is) = faults.too_many_locals many is
+check_fails c path e (too_many_locals id first names is) =
+    let many = some_many 0 c.tree id first in faults.too_many_locals (omega (arith, many)) is
 check_fails c path e (untyped bad) = faults.untyped (type_fails (maps_of c) [] c.tree path e bad)
 
 -- ---- a place that names a node is no empty place

@@ -1,5 +1,6 @@
 -- At which node of an expression a fault of its types is.
-use Rattle.std.specs.Prelude.{◌≡◌, ◌⊎◌, ◌<◌, ℤ, false, List, [], ◌∷◌, None}
+use Rattle.std.specs.Prelude.{◌≡◌, ◌⊎◌, ◌+◌, ℕ, ℤ, false, if◌then◌else◌, nat_lt, List, [], ◌∷◌, Option, None, Some}
+use Rattle.std.specs.Option.{option_or}
 use Rattle.std.specs.FinMap.{get}
 use Rattle.proto_wire.specs.Places.{Path}
 use Rattle.proto_wire.specs.declared.refusal.Refusal.{Refusal}
@@ -8,8 +9,8 @@ use Rattle.cel_value.specs.Types.{ValueType}
 use Rattle.cel_tree.specs.Checked.{CelChecked}
 use Rattle.cel_tree.specs.Places.{NamesNode}
 use Rattle.cel_tree.specs.Tree.{CelTree, constant, ident, select, call, list_literal, map_literal, comprehension, CelTarget, no_target, target, CelTrees, no_trees, tree, CelTreeEntries, no_tree_entries, tree_entry}
-use Rattle.cel_types.specs.Names.{bare_root, root_of, turn_scope, variables_of}
-use Rattle.cel_types.specs.Typing.{Kinds, Maps, Types, TypesEach, TypesTarget, constant_type, has_target, locals_in, maps_of, most_locals}
+use Rattle.cel_types.specs.Names.{bare_root, root_of, turn_scope, variable_count, variables_of}
+use Rattle.cel_types.specs.Typing.{Kinds, Maps, Types, TypesEach, TypesTarget, constant_type, has_target, maps_of, most_locals}
 use Rattle.cel_types.specs.TypingFaults.{AreGot, CallsFault, IdentFault, ItemTypes, KeyTypes, ListFault, LoopFault, MapsFault, NodeTypeFault, SelectFault, SomeTypes}
 
 -- the id of the root
@@ -88,7 +89,45 @@ abbrev mutual
   PairFaultAt m ks (tree_entry id key value es) path e =
       TypeFaultAt m ks key path e ⊎ (TypeFaultAt m ks value path e ⊎ PairFaultAt m ks es path e)
 
--- a fault of a checked expression at its place; which node has too many locals in scope is not said
+-- the id of a node that has `n` locals in scope, if that is more than it may have, or else what is inside
+abbrev pub crowded_here : ℕ → ℤ → (inside : Option ℤ) → Option ℤ
+crowded_here n id inside = if nat_lt most_locals n then Some id else inside
+
+abbrev mutual
+  -- the id of the first node of an expression that has more locals in scope than it may; none if each node has few. The
+  -- expression has `n` locals in scope. In a comprehension, the condition and the step have further ones, its variables and
+  -- its accumulator, and the result has the accumulator
+  pub first_crowded : ℕ → CelTree → Option ℤ
+  first_crowded n (constant id v) = crowded_here n id None
+  first_crowded n (ident id name) = crowded_here n id None
+  first_crowded n (select id operand field test_only) = crowded_here n id (first_crowded n operand)
+  first_crowded n (call id name on args) =
+      crowded_here n id (option_or (first_crowded_target n on) (first_crowded_each n args))
+  first_crowded n (list_literal id elements) = crowded_here n id (first_crowded_each n elements)
+  first_crowded n (map_literal id entries) = crowded_here n id (first_crowded_entry n entries)
+  first_crowded n (comprehension id x y acc range init condition step result) = crowded_here n id
+      (option_or (first_crowded n range) (option_or (first_crowded n init)
+      (option_or (first_crowded (n + (variable_count (variables_of y) + 1)) condition)
+      (option_or (first_crowded (n + (variable_count (variables_of y) + 1)) step)
+      (first_crowded (n + 1) result)))))
+
+  -- the same of a call's target, if there is one
+  pub first_crowded_target : ℕ → CelTarget → Option ℤ
+  first_crowded_target n no_target = None
+  first_crowded_target n (target on) = first_crowded n on
+
+  -- the same of expressions in order
+  pub first_crowded_each : ℕ → CelTrees → Option ℤ
+  first_crowded_each n no_trees = None
+  first_crowded_each n (tree t ts) = option_or (first_crowded n t) (first_crowded_each n ts)
+
+  -- the same of keys and values in turn
+  pub first_crowded_entry : ℕ → CelTreeEntries → Option ℤ
+  first_crowded_entry n no_tree_entries = None
+  first_crowded_entry n (tree_entry id key value es) =
+      option_or (first_crowded n key) (option_or (first_crowded n value) (first_crowded_entry n es))
+
+-- a fault of a checked expression at its place
 pub data CheckFaultAt (c : CelChecked) (path : Path) (e : Refusal) : Type 0 where
-  too_many_locals : most_locals < locals_in c.tree → e ≡ TooLarge → CheckFaultAt c path e
+  too_many_locals : (id : ℤ) → first_crowded 0 c.tree ≡ Some id → NamesNode id path → e ≡ TooLarge → CheckFaultAt c path e
   untyped : TypeFaultAt (maps_of c) [] c.tree path e → CheckFaultAt c path e

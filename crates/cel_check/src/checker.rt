@@ -11,7 +11,6 @@ ghost use Rattle.proto_wire.specs.Places.{FaultOr};
 ghost use Rattle.proto_wire.specs.Refusal.{MemoryOr};
 
 mod calls;
-mod crowded;
 mod entries;
 mod kinds;
 mod literals;
@@ -23,10 +22,9 @@ mod nodes;
 mod scope;
 mod variables;
 
-use cel_tree::{Checked, fault_of_node};
+use cel_tree::Checked;
 use cel_types::Typed;
-use crowded::crowded_node;
-use locals::{MOST_LOCALS, require_few_locals};
+use locals::require_few_locals;
 pub use naming::id_of;
 use nodes::check_tree;
 use proto_wire::{Fault, Refusal};
@@ -51,10 +49,7 @@ pub fn check_at<'a>(alloc: Global, checked: &'a Checked) -> Result<Typed<'a>, Fa
     ensures fault { IfErr result (FaultOr (CheckFault (checked_view checked.now))) }
     ensures place { IfErr result (PlacedOr (CheckFaultAt (checked_view checked.now))) }
 {
-    if let Err(refusal) = require_few_locals(&checked.tree) {
-        let id = crowded_node(&checked.tree, MOST_LOCALS);
-        return Err(fault_of_node(refusal, id));
-    }
+    require_few_locals(&checked.tree)?;
     let root = check_tree(alloc, checked, &Scope::Empty, &checked.tree)?;
     Ok(Typed { root })
 }

@@ -2,5 +2,6 @@
 #![tactic(auto)]
 
 mod checker;
+pub mod laws;
 
 pub use checker::{check, check_at, id_of};

@@ -22,13 +22,17 @@ many : (is : List Instr) → length (code_view is) ≡ length is
 many is = length-map is instr_view
 
 -- one more instruction
-pub one : {i0 i1 : List Instr} {l : List Lengths} (i : Instr) (j : Instruction) → code_view i1 ≡ code_view i0 ++ instr_view i ∷ []
-    → instr_view i ≡ j → Writes i0 i1 l l 1 (j ∷ []) []
-one {i0} {i1} {l} i j put is = record {
-  longer = omega (arith, many i0, many i1, ap length put, length-append (code_view i0) (instr_view i ∷ []));
-  code = put ∙ ap (λ x. code_view i0 ++ x ∷ []) is;
+pub wrote : {i0 i1 : List Instr} {l : List Lengths} (j : Instruction) → code_view i1 ≡ code_view i0 ++ j ∷ [] → Writes i0 i1 l l 1 (j ∷ []) []
+wrote {i0} {i1} {l} j put = record {
+  longer = omega (arith, many i0, many i1, ap length put, length-append (code_view i0) (j ∷ []));
+  code = put;
   takes = λ rest e. e ∙ append-nil rest;
 }
+
+-- the same of an `Instr` that means it
+pub one : {i0 i1 : List Instr} {l : List Lengths} (i : Instr) (j : Instruction) → code_view i1 ≡ code_view i0 ++ instr_view i ∷ []
+    → instr_view i ≡ j → Writes i0 i1 l l 1 (j ∷ []) []
+one {i0} i j put is = wrote j (put ∙ ap (λ x. code_view i0 ++ x ∷ []) is)
 
 -- the lengths of a jump are taken
 pub taken : (i : List Instr) (l0 l1 : List Lengths) (x : Lengths) → ((rest : List Lengths) → l0 ≡ rest ++ x ∷ [] → l1 ≡ rest)
@@ -136,15 +140,15 @@ module _ {d : ℕ} {a b : TypedTree} {i0 : List Instr} {l0 l1 : List Lengths} (r
             let most = gb.longer in
             omega (arith, fits, longer, more, most)
 
-        both_built : {i4 : List Instr} (y : Instr) (end : ℕ) (jump : ℕ → Instruction) (j : Instruction) → end ≡ length i0 + (extent a + 1 + extent b + 1)
-            → instr_view x ≡ jump end → code_view i4 ≡ code_view i3 ++ instr_view y ∷ [] → instr_view y ≡ j
+        both_built : {i4 : List Instr} (end : ℕ) (jump : ℕ → Instruction) (j : Instruction) → end ≡ length i0 + (extent a + 1 + extent b + 1)
+            → instr_view x ≡ jump end → code_view i4 ≡ code_view i3 ++ j ∷ []
             → Writes i0 i4 l0 l3 (extent a + 1 + extent b + 1) (code_of (length i0) d a ++ jump (length i0 + extent a + 1 + extent b + 1)
             ∷ (code_of (length i0 + extent a + 1) d b ++ j ∷ [])) ((lengths_of b ++ lengths_of a) ++ lengths_are (extent a + 1 + extent b + 1) (extent b) ∷ [])
-        both_built {i4} y end jump j ends jumps last is =
+        both_built {i4} end jump j ends jumps last =
             let p = length i0 in
             let start = then (taken i0 l0 l1 _ take) ga in
             let fork = then start (one {i0 = i1} {i1 = i2} {l = l2} x (jump end) put jumps) in
-            let whole = then (then fork gb) (one {i0 = i3} {i1 = i4} {l = l3} y j last is) in
+            let whole = then (then fork gb) (wrote {i0 = i3} {i1 = i4} {l = l3} j last) in
             let longer = fork.longer in
             let m2 : length i2 ≡ p + extent a + 1 = omega (arith, longer) in
             let me : end ≡ p + extent a + 1 + extent b + 1 = omega (arith, ends) in
@@ -155,15 +159,15 @@ module _ {d : ℕ} {a b : TypedTree} {i0 : List Instr} {l0 l1 : List Lengths} (r
             (flat ∙ ap (λ n. A ++ jump n ∷ (B ++ j ∷ [])) me ∙ ap (λ n. A ++ jump (p + extent a + 1 + extent b + 1) ∷ (code_of n d b ++ j ∷ [])) m2)
             (append_assoc (lengths_of b) (lengths_of a) _) whole
 
-        pub junction_built : {i4 : List Instr} (y : Instr) (end : ℕ) (t : ValueType) (o : Overload)
+        pub junction_built : {i4 : List Instr} (end : ℕ) (t : ValueType) (o : Overload)
             → (o ≡ (overloads.Operate operations.And)) ⊎ (o ≡ (overloads.Operate operations.Or)) → end ≡ length i0 + (extent a + 1 + extent b + 1)
-            → instr_view x ≡ passing_over o end → code_view i4 ≡ code_view i3 ++ instr_view y ∷ [] → instr_view y ≡ instruction_of o
+            → instr_view x ≡ passing_over o end → code_view i4 ≡ code_view i3 ++ instruction_of o ∷ []
             → Grows i0 i4 l0 l3 d (typed_call t o (typed a (typed b no_typed)))
-        junction_built y end t o which ends jumps last is = elim which [
+        junction_built end t o which ends jumps last = elim which [
           | inl e ↦ rw e (in_words refl (sym (and_code t a b (length i0) d)) refl
-              (both_built y end IfFalse (Operate operations.And) ends (jumps ∙ ap (λ v. passing_over v end) e) last (is ∙ ap instruction_of e)))
+              (both_built end IfFalse (Operate operations.And) ends (jumps ∙ ap (λ v. passing_over v end) e) (last ∙ ap (λ v. code_view i3 ++ instruction_of v ∷ []) e)))
           | inr e ↦ rw e (in_words refl (sym (or_code t a b (length i0) d)) refl
-              (both_built y end IfTrue (Operate operations.Or) ends (jumps ∙ ap (λ v. passing_over v end) e) last (is ∙ ap instruction_of e)))
+              (both_built end IfTrue (Operate operations.Or) ends (jumps ∙ ap (λ v. passing_over v end) e) (last ∙ ap (λ v. code_view i3 ++ instruction_of v ∷ []) e)))
         ]
 
 -- ---- `?:`

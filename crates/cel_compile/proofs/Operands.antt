@@ -12,14 +12,14 @@ use Rattle.cel_types.specs.Elaborated.{TypedTree, TypedTrees, typed_constant, ty
 use Rattle.cel_types.specs.View.{expr_view}
 use Rattle.cel_types.specs.private.ExprViews.{exprs_view}
 use Rattle.cel_types.specs.declared.typed.TypedExpr.{TypedExpr}
-use Rattle.machine_code.specs.Instructions.{code_view, instr_view, MakeList, MakeMap}
+use Rattle.machine_code.specs.Instructions.{code_view, MakeList, MakeMap}
 use Rattle.machine_code.specs.declared.instr.Instr.{Instr}
 use Rattle.cel_compile.specs.Codes.{count, instruction_of, list_instruction, map_instruction, pairs}
 use Rattle.cel_compile.specs.private.Extents.{extent, extents}
 use Rattle.cel_compile.specs.Slots.{HasFewLocals, HaveFewLocals}
 use Rattle.cel_compile.specs.declared.lengths.Lengths.{Lengths}
 use Rattle.cel_compile.specs.private.Emitting.{Grows, GrowsAll, HasRoom, HaveRoom}
-use Rattle.cel_compile.proofs.Built.{first_built, left, next, nothing, one, then}
+use Rattle.cel_compile.proofs.Built.{first_built, left, next, nothing, then, wrote}
 use Rattle.cel_compile.proofs.Sound.{some_list, some_map}
 
 -- ---- numbers of expressions
@@ -112,15 +112,15 @@ module _ (bj bc : Bool) (d : ℕ) (t : ValueType) (i0 : List Instr) (l0 : List L
       let fits : length i0 + (extents (exprs_view xs) + 1) < 2 ^ 16 = room.2 in
       record { operands = (room.0, room.1, omega (arith, fits)); fits = fits }
 
-  pub plain_grows : (o : Overload) (xs : List TypedExpr) (i1 i2 : List Instr) (l1 : List Lengths) (i : Instr)
+  pub plain_grows : (o : Overload) (xs : List TypedExpr) (i1 i2 : List Instr) (l1 : List Lengths)
       → (IsTrue bj ↔ (((o ≡ (overloads.Operate operations.And)) ⊎ (o ≡ (overloads.Operate operations.Or))) × (length xs ≡ 2))) → bj ≡ false
       → (IsTrue bc ↔ ((o ≡ overloads.Conditional) × (length xs ≡ 3))) → bc ≡ false
-      → GrowsAll i0 i1 l0 l1 d (exprs_view xs) → code_view i2 ≡ code_view i1 ++ instr_view i ∷ [] → instr_view i ≡ instruction_of o
+      → GrowsAll i0 i1 l0 l1 d (exprs_view xs) → code_view i2 ≡ code_view i1 ++ instruction_of o ∷ []
       → Grows i0 i2 l0 l1 d (typed_call t o (exprs_view xs))
-  plain_grows (overloads.Operate operations.And) (x ∷ y ∷ []) i1 i2 l1 i hj nj hc nc g put is = let h : bj ≡ true = hj.1 (inl refl, refl) in absurd cc
-  plain_grows (overloads.Operate operations.Or) (x ∷ y ∷ []) i1 i2 l1 i hj nj hc nc g put is = let h : bj ≡ true = hj.1 (inr refl, refl) in absurd cc
-  plain_grows overloads.Conditional (x ∷ y ∷ z ∷ []) i1 i2 l1 i hj nj hc nc g put is = let h : bc ≡ true = hc.1 (refl, refl) in absurd cc
-  plain_grows o xs i1 i2 l1 i hj nj hc nc g put is = then g (one i (instruction_of o) put is)
+  plain_grows (overloads.Operate operations.And) (x ∷ y ∷ []) i1 i2 l1 hj nj hc nc g put = let h : bj ≡ true = hj.1 (inl refl, refl) in absurd cc
+  plain_grows (overloads.Operate operations.Or) (x ∷ y ∷ []) i1 i2 l1 hj nj hc nc g put = let h : bj ≡ true = hj.1 (inr refl, refl) in absurd cc
+  plain_grows overloads.Conditional (x ∷ y ∷ z ∷ []) i1 i2 l1 hj nj hc nc g put = let h : bc ≡ true = hc.1 (refl, refl) in absurd cc
+  plain_grows o xs i1 i2 l1 hj nj hc nc g put = then g (wrote (instruction_of o) put)
 
 pub plain_put : {d : ℕ} {es : TypedTrees} {i0 i1 : List Instr} {l0 l1 : List Lengths} → PlainRoom d es i0 l0 → GrowsAll i0 i1 l0 l1 d es → length i1 < 65535
 plain_put room g = let fits = room.fits in let longer = g.longer in omega (arith, fits, longer)

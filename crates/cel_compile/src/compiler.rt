@@ -17,7 +17,7 @@ ghost use Rattle.proto_wire.specs.Refusal.{MemoryOr};
 ghost use Rattle.machine_code.specs.Instructions.{code_view, instr_view};
 ghost use Rattle.machine_code.specs.Machine.{NeverStuck};
 ghost use Rattle.machine_code.specs.Typable.{Forward};
-ghost use Rattle.cel_compile.specs.Codes.{code_of};
+ghost use Rattle.cel_compile.specs.Codes.{code_of, instruction_of};
 ghost use Rattle.cel_compile.specs.Slots.{HasFewLocals};
 ghost use Rattle.cel_compile.specs.Sound.{IsSound, RunsToMeaning};
 ghost use Rattle.cel_compile.specs.private.Extents.{extent};
@@ -98,6 +98,14 @@ fn put(code: &mut Code, instr: Instr) -> Result<(), AllocError>
         Err(CodeFault::Memory) => Err(AllocError),
         Err(CodeFault::TooMany) => unreachable!(),
     }
+}
+
+// Appends the instruction of a call; the code has room for it.
+fn put_call(code: &mut Code, overload: Overload) -> Result<(), AllocError>
+    requires { length code.old < 65535 }
+    ensures found { OnOk result (code_view code.new ≡ code_view code.old ++ instruction_of overload ∷ []) }
+{
+    put(code, call_instr(overload))
 }
 
 // Appends the instructions of an expression with `depth` locals in scope, and takes the lengths of its jumps.
@@ -186,7 +194,7 @@ fn emit_call(
         return Ok(());
     }
     emit_all(code, lengths, depth, operands)?;
-    put(code, call_instr(overload))?;
+    put_call(code, overload)?;
     Ok(())
 }
 
@@ -213,7 +221,7 @@ fn emit_junction(
     emit(code, lengths, depth, left)?;
     put(code, passing_over(overload, targets.end))?;
     emit(code, lengths, depth, right)?;
-    put(code, call_instr(overload))?;
+    put_call(code, overload)?;
     Ok(())
 }
 

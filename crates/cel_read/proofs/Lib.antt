@@ -5,6 +5,7 @@ pub mod ChildLaws
 pub mod InnerLaws
 pub mod Counting
 pub mod Insides
+pub mod Ids
 pub mod PlaceLaws
 pub mod TypeLevels
 pub mod NamedMaps

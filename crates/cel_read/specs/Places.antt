@@ -1,13 +1,13 @@
 -- Where in the messages of an expression a fault is: the node that has it, or the entry of a map.
-use Rattle.std.specs.Prelude.{◌≡◌, ◌≢◌, ◌⊎◌, ◌<◌, ◌+◌, ℕ, zero, suc, ℤ, List, [], ◌∷◌, Some}
+use Rattle.std.specs.Prelude.{◌≡◌, ◌≢◌, ◌⊎◌, ◌<◌, ◌+◌, ℕ, zero, suc, ℤ, List, [], ◌∷◌, ◌++◌, Some}
 use Rattle.std.specs.FinMap.{entries, find}
 use Rattle.std.specs.Ordering.{int_cmp}
-use Rattle.proto_wire.specs.Fields.{Wire}
+use Rattle.proto_wire.specs.Fields.{Broken, Fields, Wire}
 use Rattle.proto_wire.specs.Maps.{Entry, Readable, SomeEntryFault, int64, map_of}
-use Rattle.proto_wire.specs.Merge.{Merges}
 use Rattle.proto_wire.specs.Messages.{MessageFault, IsMessage}
 use Rattle.proto_wire.specs.Places.{Path, BeginsWith, path_at}
 use Rattle.proto_wire.specs.Values.{int64_at, payloads}
+use Rattle.proto_wire.specs.declared.fault.WireError.{WireError}
 use Rattle.proto_wire.specs.declared.refusal.Refusal.{Refusal}
 use Rattle.proto_wire.specs.declared.refusal.Refusal.TheVariants.{Missing, TooLarge}
 use Rattle.cel_tree.specs.Message.{checked_field, checked_keys, most_nodes, tree_depth, ExprParts, checked_parts, unchecked_parts}
@@ -20,10 +20,19 @@ use Rattle.cel_tree.specs.TypeEntries.{TypeEntryFault}
 
 -- ---- nodes
 
--- the path names an expression by the id in its message. If the message is no list of fields, any id may be named
+-- the fields of a payload: all of them, or those before bytes that are no field
+abbrev pub AreWhole : List ℕ → List Wire → Type 0
+AreWhole bytes fs = Fields bytes fs ⊎ ((e : WireError) × Broken bytes fs e)
+
+-- those of each payload, in order
+abbrev pub AreWholeOf : Parts → List Wire → Type 0
+AreWholeOf [] fs = fs ≡ []
+AreWholeOf (part ∷ parts) fs =
+    (own others : List Wire) × AreWhole part own × AreWholeOf parts others × (fs ≡ own ++ others)
+
+-- the path names an expression by the id in its message. If a payload is no list of fields, those before the fault count
 abbrev pub NamesExpr : Parts → Path → Type 0
-NamesExpr parts path = (id : ℤ) × ((fs : List Wire) → Merges parts fs → id ≡ int64_at node_field.id fs)
-    × NamesNode id path
+NamesExpr parts path = (fs : List Wire) × AreWholeOf parts fs × NamesNode (int64_at node_field.id fs) path
 
 -- a fault of an expression itself, which may have `depth` levels, and `left` nodes: it is one level too deep, one node
 -- too many, or its own message has a fault

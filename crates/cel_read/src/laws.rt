@@ -1,12 +1,15 @@
 //! Laws of the definitions. Payloads are the message of at most one expression, or have a fault, and never both.
-//! The constants of its tree have the types of their kinds, and its ids are int64.
+//! The constants of its tree have the types of their kinds, and its ids are int64. What has a fault at a place has the
+//! fault.
 
 ghost use Rattle.std.specs.Prelude.{◌≡◌, ◌⊎◌, ℕ, List};
+ghost use Rattle.proto_wire.specs.Places.{Path};
 ghost use Rattle.proto_wire.specs.declared.refusal.Refusal.{Refusal};
 ghost use Rattle.cel_tree.specs.Checked.{CelChecked};
 ghost use Rattle.cel_tree.specs.GoodConstants.{HasGoodConstants};
 ghost use Rattle.cel_tree.specs.Ids.{IdsAreInt64};
 ghost use Rattle.cel_tree.specs.Message.{IsChecked, CheckedFault, ExprFault, ExprParts, IsExprOf};
+ghost use Rattle.cel_read.specs.Places.{CheckedFaultAt, ExprFaultAt};
 
 /// Payloads are the message of a checked expression, or have a fault.
 pub fn checked_total()
@@ -46,4 +49,12 @@ pub fn constants_have_types()
 /// The id of each node, and each id of the maps, is from -2^63 to 2^63 - 1.
 pub fn ids_are_int64()
     ensures { (parts : List (List ℕ)) (c : CelChecked) → IsChecked parts c → IdsAreInt64 c }
+{}
+
+/// Payloads that have a fault at a place have the fault.
+pub fn fault_at_a_place_is_a_fault()
+    ensures checked { (parts : List (List ℕ)) (path : Path) (e : Refusal) → CheckedFaultAt parts path e
+        → CheckedFault parts e }
+    ensures expr { (parts : ExprParts) (path : Path) (e : Refusal) → ExprFaultAt parts path e
+        → ExprFault parts e }
 {}

@@ -1,50 +1,67 @@
 //! The id of an expression that does not read, to name it.
 
-ghost use Rattle.std.specs.Prelude.{◌≡◌, ◌⊎◌};
+ghost use Rattle.std.specs.Prelude.{◌≡◌, ◌≢◌, ◌⊎◌, IfSome, List, [], None, unwrap_or};
+ghost use Rattle.std.specs.Int.{cast_signed, w64};
+ghost use Rattle.proto_wire.specs.Fields.{FailsField, StartsField, Wire, field_view};
 ghost use Rattle.proto_wire.specs.Merge.{parts_view};
 ghost use Rattle.proto_wire.specs.Places.{path_of};
-ghost use Rattle.proto_wire.specs.declared.refusal.Refusal.TheVariants.{Memory};
-ghost use Rattle.cel_read.specs.Places.{NamesExpr};
+ghost use Rattle.proto_wire.specs.Values.{last_of, varint_at, varints};
+ghost use Rattle.proto_wire.specs.declared.fault.WireError.{WireError};
+ghost use Rattle.cel_tree.specs.Nodes.{node_field};
+ghost use Rattle.cel_read.specs.Places.{AreWhole, AreWholeOf, NamesExpr};
 
 use cel_tree::{NODE_ID, fault_of_node};
-use proto_wire::{Fault, Payload, Reader, Refusal, int64_at, read_parts};
-use std::alloc::Global;
+use proto_wire::{Fault, Field, Reader, Refusal, last_varint};
 
-/// The fault of an expression with these parts, which names it by its id. Out of memory if the id cannot be read
-/// for that.
+/// The fault of an expression with these parts, which names it by its id.
 #[cold]
 #[inline(never)]
-pub(crate) fn fault_of_expr(alloc: Global, parts: &[&[u8]], refusal: Refusal) -> Fault
-    ensures { (result.refusal ≡ Memory)
-        ⊎ ((result.refusal ≡ refusal) × NamesExpr (parts_view parts.now) (path_of result.place)) }
+pub(crate) fn fault_of_expr(parts: &[&[u8]], refusal: Refusal) -> Fault
+    ensures refusal { result.refusal ≡ refusal }
+    ensures place { NamesExpr (parts_view parts.now) (path_of result.place) }
 {
-    match read_parts(alloc, parts) {
-        Ok(fields) => fault_of_node(refusal, int64_at(&fields, NODE_ID)),
-        Err(Refusal::Memory) => Fault::from(Refusal::Memory),
-        Err(_) => fault_of_node(refusal, id_before_break(parts)),
-    }
+    fault_of_node(refusal, signed(id_of(parts)))
 }
 
-/// The last id before bytes that are no field. No contract mentions it: such a message has no id.
-fn id_before_break(parts: &[&[u8]]) -> i64 {
-    let mut id = 0;
+/// The number with these bits in two's complement.
+fn signed(bits: u64) -> i64
+    ensures { result ≡ cast_signed w64 bits }
+{
+    bits.cast_signed()
+}
+
+/// The id in the fields of all parts, as it is encoded. Of a part that is no list of fields, those before the fault count.
+fn id_of(parts: &[&[u8]]) -> u64
+    ensures { (fs : List Wire) × AreWholeOf (parts_view parts.now) fs × (result ≡ varint_at node_field.id fs) }
+{
+    let mut last = 0;
     for part in parts {
-        id = last_id(part, id);
+        last = last_id(part, last);
     }
-    id
+    last
 }
 
-fn last_id(bytes: &[u8], before: i64) -> i64 {
-    let mut id = before;
+/// The last id in the fields of a part, as it is encoded; the one before them if they have none.
+fn last_id(bytes: &[u8], before: u64) -> u64
+    ensures { (fs : List Wire) × AreWhole bytes.now fs
+        × (result ≡ unwrap_or (last_of (varints node_field.id fs)) before) }
+{
+    let mut last = before;
     let mut reader = Reader::new(bytes);
-    for _ in bytes {
-        let Ok(Some(field)) = reader.next() else {
-            return id;
-        };
-        match field.payload {
-            Payload::Varint(value) if field.number == NODE_ID => id = value.cast_signed(),
-            _ => {}
-        }
+    while let Some(field) = next_field(&mut reader) {
+        last = last_varint(&[field], NODE_ID).unwrap_or(last);
     }
-    id
+    last
+}
+
+/// The next field; none at the end, and before bytes that are no field.
+fn next_field<'a>(reader: &mut Reader<'a>) -> Option<Field<'a>>
+    ensures found { IfSome result (λ f. StartsField reader.old (field_view f) reader.new) }
+    ensures none { result ≡ None → (reader.new ≡ reader.old)
+        × ((reader.old ≡ []) ⊎ ((reader.old ≢ []) × (e : WireError) × FailsField reader.old e)) }
+{
+    match reader.next() {
+        Ok(found) => found,
+        Err(_) => None,
+    }
 }

@@ -41,7 +41,7 @@ pub(crate) fn read_tree(
 {
     match read_own(alloc, parts, depth, left) {
         Ok((id, node)) => read_inside(alloc, id, node, depth - 1, left),
-        Err(refusal) => Err(fault_of_expr(alloc, parts, refusal)),
+        Err(refusal) => Err(fault_of_expr(parts, refusal)),
     }
 }
 

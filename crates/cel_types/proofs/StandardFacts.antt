@@ -2,6 +2,7 @@
 use Rattle.std.proofs.Common.{◌≡◌, pos, negsuc, true, false, [], ◌∷◌, Option, None, refl}
 use Rattle.std.specs.Prelude.{codes}
 use Rattle.std.specs.Str.{chars}
+use Rattle.attributes.specs.declared.protocol.Protocol.TheVariants.{Http11}
 use Rattle.attributes.specs.Request.{RequestValue, request_of}
 use Rattle.attributes.specs.Conn.{only_scheme}
 use Rattle.cel_value.specs.Values.{CelAnswer}
@@ -12,7 +13,7 @@ use Rattle.cel_types.proofs.Written.{all, both, broken, calls, choice, either, e
 
 -- `GET /a?b HTTP/1.1` without fields, over plain HTTP
 abbrev plain : RequestValue
-plain = request_of (codes "GET") (codes "/a?b") true [] (only_scheme (codes "http"))
+plain = request_of (codes "GET") (codes "/a?b") Http11 [] (only_scheme (codes "http"))
 
 abbrev means : CelTree → Option CelAnswer
 means t = eval t plain []

@@ -7,6 +7,8 @@ use Rattle.clap.specs.declared.builder.action.ArgAction.TheVariants.{Append, Set
 use Rattle.clap.specs.declared.builder.value_parser.ValueParser.TheVariants as parsers
 use Rattle.clap.specs.declared.error.kind.ErrorKind.{ErrorKind}
 use Rattle.clap.specs.declared.error.kind.ErrorKind.TheVariants.{ValueValidation}
+use Rattle.cost_bound.specs.Budgets.{IsBudget}
+use Rattle.cost_bound.specs.declared.budget.Budget.{Budget}
 use Rattle.command_line.specs.declared.control_words.SnapshotFiles.{SnapshotFiles}
 use Rattle.command_line.specs.declared.control_words.SnapshotFiles.TheVariants.{Filters, Responses}
 use Rattle.command_line.specs.declared.words.Job.{Job}
@@ -34,6 +36,15 @@ budget_rule = record (new_rule (codes "budget")) {
   value_names = 1;
   parser = Some (parsers.Unsigned 1 100000000);
   defaults = codes "1000000" ∷ [];
+}
+
+-- `--visits N`, a number from 1 to 2^63 - 1; 4,194,304 if it is absent
+abbrev pub visits_rule : Rule
+visits_rule = record (new_rule (codes "visits")) {
+  long = Some (codes "visits");
+  value_names = 1;
+  parser = Some (parsers.Unsigned 1 9223372036854775807);
+  defaults = codes "4194304" ∷ [];
 }
 
 -- `--json`
@@ -135,14 +146,15 @@ check_rule = record (new_rule (codes "check")) {
   action = Some SetTrue;
 }
 
--- `check --policy FILE [--budget N] [--json]`
+-- `check --policy FILE [--budget N] [--visits N] [--json]`
 abbrev pub check_app : App
-check_app = with_rule (with_rule (with_rule (new_app (codes "check")) policy_rule) budget_rule) json_rule
+check_app = with_rule (with_rule (with_rule (with_rule (new_app (codes "check")) policy_rule) budget_rule) visits_rule)
+    json_rule
 
--- `judge --policy FILE [--facts FILE] [--budget N] [--json] [--explain] [--batch]`
+-- `judge --policy FILE [--facts FILE] [--budget N] [--visits N] [--json] [--explain] [--batch]`
 abbrev pub judge_app : App
-judge_app = with_rule (with_rule (with_rule (with_rule (with_rule (with_rule (new_app (codes "judge")) policy_rule)
-    facts_rule) budget_rule) json_rule) explain_rule) batch_rule
+judge_app = with_rule (with_rule (with_rule (with_rule (with_rule (with_rule (with_rule (new_app (codes "judge"))
+    policy_rule) facts_rule) budget_rule) visits_rule) json_rule) explain_rule) batch_rule
 
 -- `check-config --config FILE`
 abbrev pub check_config_app : App
@@ -180,13 +192,17 @@ rbacd_app = with_subcommand (with_subcommand (with_subcommand (with_subcommand (
     (with_subcommand bare_app check_app.top) judge_app.top) check_config_app.top) replay_app.top) control_app.top)
     proxy_app.top) serve_app.top
 
--- the value of `--budget` is this number, and it is allowed
-pub record IsBudgetOf (rows : List Row) (budget : ℕ) : Type 0 where
+-- the value of this argument is this number
+pub record IsValueOf (name : Text) (rows : List Row) (n : ℕ) : Type 0 where
   pub text : Text
-  pub given : one_of (codes "budget") rows ≡ Some text
-  pub number : ParsesUnsigned {E = ⊤} 64 10 text (Ok budget)
-  pub positive : 1 ≤ budget
-  pub allowed : budget ≤ 100000000
+  pub given : one_of name rows ≡ Some text
+  pub number : ParsesUnsigned {E = ⊤} 64 10 text (Ok n)
+
+-- the values of `--budget` and `--visits` are these steps and visits, and they are allowed
+pub record IsBudgetOf (rows : List Row) (budget : Budget) : Type 0 where
+  pub steps : IsValueOf (codes "budget") rows budget.steps
+  pub visits : IsValueOf (codes "visits") rows budget.visits
+  pub allowed : IsBudget budget
 
 -- the value of `--rounds` is this number, and it is allowed
 pub record AreRoundsOf (rows : List Row) (rounds : ℕ) : Type 0 where

@@ -2,7 +2,7 @@
 ghost use Rattle.std.specs.Prelude.{◌≡◌, IfOk, codes, false};
 ghost use Rattle.clap.specs.Words.{app_of, rule_of};
 ghost use Rattle.clap.specs.declared.builder.command.Command.TheViews.{out-Command};
-ghost use Rattle.command_line.specs.Words.{bare_app, batch_rule, budget_rule, check_app, check_config_app, check_rule, config_rule, connection_rule, control_app, control_rule, explain_rule, facts_rule, files_rule, json_rule, judge_app, listen_rule, log_rule, name_rule, policy_rule, proxy_app, rbacd_app, replay_app, response_rule, rounds_rule, serve_app};
+ghost use Rattle.command_line.specs.Words.{bare_app, batch_rule, budget_rule, check_app, check_config_app, check_rule, config_rule, connection_rule, control_app, control_rule, explain_rule, facts_rule, files_rule, json_rule, judge_app, listen_rule, log_rule, name_rule, policy_rule, proxy_app, rbacd_app, replay_app, response_rule, rounds_rule, serve_app, visits_rule};
 
 use crate::help::{
     CHECK_CONFIG_HELP, CHECK_HELP, CONTROL_HELP, EXAMPLE, JUDGE_HELP, PROXY_HELP, REPLAY_HELP,
@@ -36,6 +36,7 @@ fn check_command<'a>(alloc: Global) -> Result<Command<'a>, AllocError>
         .after_help(CHECK_HELP)
         .arg(policy_arg(alloc))?
         .arg(budget_arg(alloc))?
+        .arg(visits_arg(alloc))?
         .arg(json_arg(alloc))
 }
 
@@ -49,6 +50,7 @@ fn judge_command<'a>(alloc: Global) -> Result<Command<'a>, AllocError>
         .arg(policy_arg(alloc))?
         .arg(facts_arg(alloc))?
         .arg(budget_arg(alloc))?
+        .arg(visits_arg(alloc))?
         .arg(json_arg(alloc))?
         .arg(explain_arg(alloc))?
         .arg(batch_arg(alloc))
@@ -85,6 +87,18 @@ fn budget_arg<'a>(alloc: Global) -> Arg<'a>
         .value_parser(value_parser!(u64).range(1..=100_000_000))
         .default_value("1000000")
         .help("What the policy's conditions may cost, from 1 to 100000000")
+}
+
+fn visits_arg<'a>(alloc: Global) -> Arg<'a>
+    ensures rule { rule_of result ≡ visits_rule }
+    ensures local { result.global ≡ false }
+{
+    Arg::new(alloc, "visits")
+        .long("visits")
+        .value_name("N")
+        .value_parser(value_parser!(u64).range(1..=9_223_372_036_854_775_807))
+        .default_value("4194304")
+        .help("How many visits the measuring of the conditions may take, from 1 to 2^63 - 1")
 }
 
 fn json_arg<'a>(alloc: Global) -> Arg<'a>

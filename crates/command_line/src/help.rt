@@ -92,13 +92,13 @@ Examples:
 pub(crate) const CHECK_CONFIG_HELP: &str = "The lines on standard output, with status 0:
   node \"n\"
   cluster \"c\"
-  filter \"f\" budget 1000000
+  filter \"f\" budget 1000000 visits 4194304
   limits fields 64 name 128 value 4096 method 32 target 4096 text 1024
 Without these lines, standard error says why. The status is then 6 for a bad configuration, and 2 if the words are
 mistaken or a file fails.
 
-A configuration is an object like this; each budget, the limits and each limit may be absent:
-  {\"node\":\"n\",\"cluster\":\"c\",\"filters\":[{\"name\":\"f\",\"budget\":1000000}],\"limits\":{\"method\":32}}";
+A configuration is an object like this; each budget, each number of visits, the limits and each limit may be absent:
+  {\"node\":\"n\",\"cluster\":\"c\",\"filters\":[{\"name\":\"f\",\"budget\":1000000,\"visits\":4194304}],\"limits\":{\"method\":32}}";
 
 /// The end of the help of `replay`.
 pub(crate) const REPLAY_HELP: &str = "Each line of standard input is one of these objects:

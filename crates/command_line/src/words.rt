@@ -3,33 +3,32 @@ ghost use Rattle.std.specs.Prelude.{◌≡◌, ◌⊎◌, ℕ, Option, IfErr, If
 ghost use Rattle.clap.specs.Words.{first_of, found_of, kind_of, rows_of, subcommand_rows_of};
 ghost use Rattle.command_line.specs.Words.{AreMistaken, AreRoundsOf, HasFlag, IsBudgetOf, IsJobOf, IsConnectionOf, IsJobOfNamed, IsJobOfRows, NamesNoJob, subcommand_name};
 ghost use Rattle.command_line.specs.declared.words.Job.{Job};
+ghost use Rattle.cost_bound.specs.declared.budget.Budget.{Budget};
 
 use crate::commands::command;
 use crate::control_words::{ControlWords, control_fault, control_words};
 use crate::texts::text_of;
 use clap::error::ErrorKind;
 use clap::{ArgMatches, Error};
+use cost_bound::Budget;
 use std::alloc::{AllocError, Global};
 use std::convert::AsStr;
-
-/// The greatest budget for the conditions of one filter, in steps.
-pub(crate) const MOST_BUDGET: u64 = 100_000_000;
 
 /// The greatest number of rounds of a proxy.
 pub(crate) const MOST_ROUNDS: u64 = 1_000_000;
 
 /// What is wrong with a number that is not allowed.
 const NUMBER_FAULT: &str =
-    "a budget is a number from 1 to 100000000, rounds are a number from 0 to 1000000, and a connection is a number \
-    from 0 to 18446744073709551615";
+    "a budget is a number from 1 to 100000000, visits are a number from 1 to 9223372036854775807, rounds are a number \
+    from 0 to 1000000, and a connection is a number from 0 to 18446744073709551615";
 
 /// The job that the program is asked to do.
 #[derive(Drop)]
 pub enum Job {
-    /// `check --policy FILE [--budget N] [--json]`: checks whether a policy file is admitted.
+    /// `check --policy FILE [--budget N] [--visits N] [--json]`: checks whether a policy file is admitted.
     Check(CheckWords),
-    /// `judge --policy FILE [--facts FILE] [--budget N] [--json] [--explain]`: judges the head on standard input by a
-    /// policy file.
+    /// `judge --policy FILE [--facts FILE] [--budget N] [--visits N] [--json] [--explain]`: judges the head on standard
+    /// input by a policy file.
     Judge(JudgeWords),
     /// `judge --batch` with the other words of `judge`: judges the heads in the lines of standard input.
     Batch(BatchWords),
@@ -55,8 +54,8 @@ pub enum Job {
 pub struct CheckWords {
     /// The path of the policy file.
     pub policy: String,
-    /// The budget of the policy's conditions in steps, from 1 to `MOST_BUDGET`.
-    pub budget: u64,
+    /// The budget of the policy's conditions.
+    pub budget: Budget,
     /// Whether the outcome is printed as JSON.
     pub json: bool,
 }
@@ -68,8 +67,8 @@ pub struct JudgeWords {
     pub policy: String,
     /// The path of the file with the facts of the connection, if there is one.
     pub facts: Option<String>,
-    /// The budget of the policy's conditions in steps, from 1 to `MOST_BUDGET`.
-    pub budget: u64,
+    /// The budget of the policy's conditions.
+    pub budget: Budget,
     /// Whether the outcome is printed as JSON.
     pub json: bool,
     /// Whether the policies that were tried are shown.
@@ -83,8 +82,8 @@ pub struct BatchWords {
     pub policy: String,
     /// The path of the file with the facts of lines that have none, if there is one.
     pub facts: Option<String>,
-    /// The budget of the policy's conditions in steps, from 1 to `MOST_BUDGET`.
-    pub budget: u64,
+    /// The budget of the policy's conditions.
+    pub budget: Budget,
     /// Whether a refusal of the policy, or a fault of the files, is printed as JSON.
     pub json: bool,
     /// Whether the policies that were tried are shown.
@@ -248,13 +247,16 @@ fn has_flag(matches: &ArgMatches<'_>, name: &str) -> bool
     }
 }
 
-fn budget_of(matches: &ArgMatches<'_>) -> Option<u64>
+/// The budget that was given, if it is allowed.
+fn budget_of(matches: &ArgMatches<'_>) -> Option<Budget>
     ensures budget { IfSome result (IsBudgetOf (rows_of (found_of matches.now))) }
-    ensures none { IfNone result ((budget : ℕ)
+    ensures none { IfNone result ((budget : Budget)
         → ¬ (IsBudgetOf (rows_of (found_of matches.now)) budget)) }
 {
-    let budget = matches.get_one::<u64>("budget")?;
-    if budget == 0 || budget > MOST_BUDGET {
+    let steps = matches.get_one::<u64>("budget")?;
+    let visits = matches.get_one::<u64>("visits")?;
+    let budget = Budget { steps, visits };
+    if !budget.is_allowed() {
         return None;
     }
     Some(budget)

@@ -1,9 +1,9 @@
 //! The part of a policy file that has a fault, and what its refusal means. No contract describes the texts.
 
 use crate::meanings::meaning_of;
-use attributes::Limits;
+use cost_bound::Budget;
 use proto_wire::{Fault, Refusal};
-use rbac_policy::{OverBudget, over_budget, place_of, place_of_fault};
+use rbac_policy::place_of_fault;
 use std::alloc::Global;
 use std::fmt;
 
@@ -25,41 +25,26 @@ impl RefusedPart {
         }
     }
 
-    /// The part of these bytes that has this fault under these limits and this budget.
-    pub fn of(
-        alloc: Global,
-        bytes: &[u8],
-        refusal: Refusal,
-        limits: &Limits,
-        budget: u64,
-    ) -> RefusedPart {
-        if refusal == Refusal::TooCostly {
-            return costly_part(alloc, bytes, limits, budget);
-        }
-        RefusedPart {
-            place: place_of(alloc, bytes, refusal, limits, budget),
-            steps: None,
-        }
-    }
-
-    /// The part of these bytes that has the fault with which they were refused under these limits and this budget.
-    /// Out of memory is of no part.
+    /// The part of these bytes that has the fault with which they were refused. Out of memory is of no part. `left` is
+    /// what the conditions before the fault leave of the budget.
     pub fn at(
         alloc: Global,
         bytes: &[u8],
         fault: &Fault,
-        limits: &Limits,
-        budget: u64,
+        left: Budget,
+        budget: Budget,
     ) -> RefusedPart {
-        if fault.refusal == Refusal::TooCostly {
-            return costly_part(alloc, bytes, limits, budget);
-        }
-        if fault.refusal == Refusal::Memory {
-            return RefusedPart::unknown();
-        }
+        let steps = match fault.refusal {
+            Refusal::Memory => return RefusedPart::unknown(),
+            Refusal::TooCostly => Some(StepsLeft {
+                left: left.steps,
+                budget: budget.steps,
+            }),
+            _ => None,
+        };
         RefusedPart {
             place: place_of_fault(alloc, bytes, fault),
-            steps: None,
+            steps,
         }
     }
 
@@ -69,17 +54,6 @@ impl RefusedPart {
             refusal,
             steps: self.steps,
         }
-    }
-}
-
-/// The condition at which the budget is exceeded.
-fn costly_part(alloc: Global, bytes: &[u8], limits: &Limits, budget: u64) -> RefusedPart {
-    match over_budget(alloc, bytes, limits, budget) {
-        Some(OverBudget { place, left }) => RefusedPart {
-            place: Some(place),
-            steps: Some(StepsLeft { left, budget }),
-        },
-        None => RefusedPart::unknown(),
     }
 }
 

@@ -21,10 +21,10 @@ pub fn fault_of<'a>(alloc: Global, refused: &Refused, config: &'a Config) -> Res
     let Some((name, budget)) = config.filters().get_index(place) else {
         return unknown();
     };
-    let (message, fault) = (&refused.message, &refused.fault);
+    let message = &refused.message;
     ResponseFault {
         filter: Some(name.as_str()),
-        part: RefusedPart::at(alloc, message, fault, config.limits(), *budget),
+        part: RefusedPart::at(alloc, message, &refused.fault, refused.left, *budget),
     }
 }
 

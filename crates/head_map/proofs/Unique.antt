@@ -4,14 +4,20 @@ use Rattle.std.specs.List.{AllZip, list_all}
 use Rattle.std.specs.String.{string_bytes}
 use Rattle.attributes.specs.Headers.{Entry, values_of}
 use Rattle.attributes.proofs.OneAddress.{one_address}
+use Rattle.attributes.specs.Address.{unmapped}
+use Rattle.attributes.specs.declared.address.Ip.{Ip}
 use Rattle.head_map.specs.declared.fact.Fact.{Fact}
 use Rattle.head_map.specs.declared.fact.Fact.TheVariants as facts
 use Rattle.head_map.specs.declared.fact.MapFault.{MapFault}
 use Rattle.head_map.specs.declared.fact.MapFault.TheVariants.{Doubled, Missing, Unreadable}
 use Rattle.head_map.specs.declared.fact.NamedFact.{NamedFact}
-use Rattle.head_map.specs.Claims.{Claim, Reads, direct_remote_ip, parts_of, remote_ip, without_back_blanks, without_front_blanks}
+use Rattle.head_map.specs.Claims.{Claim, IsClientIp, Reads, direct_remote_ip, parts_of, remote_ip, without_back_blanks, without_front_blanks}
 use Rattle.head_map.specs.Mapped.{HasMapFault, IsMapped, MappingValue, PartsValue, Says, SaysFault, absent, doubled, is_present, mapped, missing, no_mapping, other_lines, silent, unreadable}
 use Rattle.head_map.proofs.Forwarding.{one_part}
+
+-- a text spells one address, in one form
+one_client : (text : List ℕ) (i j : Ip) → IsClientIp text i → IsClientIp text j → i ≡ j
+one_client text i j (a, x, p) (b, y, q) = p ∙ ap unmapped (one_address text a b x y) ∙ sym q
 
 -- a value says one thing
 one_claim : (fact : Fact) (value : List ℕ) (a b : Claim) → Reads fact value a → Reads fact value b → a ≡ b
@@ -19,12 +25,12 @@ one_claim facts.Method value a b (x, p) (y, q) = p ∙ sym q
 one_claim facts.Target value a b (x, p) (y, q) = p ∙ sym q
 one_claim facts.Host value a b (x, p) (y, q) = p ∙ sym q
 one_claim facts.Scheme value a b (x, p) (y, q) = p ∙ sym q
-one_claim facts.RemoteIp value a b (i, x, p) (j, y, q) = p ∙ ap remote_ip (one_address value i j x.0 y.0) ∙ sym q
+one_claim facts.RemoteIp value a b (i, x, p) (j, y, q) = p ∙ ap remote_ip (one_client value i j x y) ∙ sym q
 one_claim (facts.ForwardedFor place) value a b (i, (part, at, x), p) (j, (other, there, y), q) =
     let same : other ≡ part = one_part place (parts_of value) part other at there in
     let y_too = ap (λ (t : List ℕ). without_back_blanks (without_front_blanks t)) same in
-    p ∙ ap remote_ip (one_address (without_back_blanks (without_front_blanks part)) i j x.0 (rw y_too at y.0)) ∙ sym q
-one_claim facts.DirectRemoteIp value a b (i, x, p) (j, y, q) = p ∙ ap direct_remote_ip (one_address value i j x.0 y.0) ∙ sym q
+    p ∙ ap remote_ip (one_client (without_back_blanks (without_front_blanks part)) i j x (rw y_too at y)) ∙ sym q
+one_claim facts.DirectRemoteIp value a b (i, x, p) (j, y, q) = p ∙ ap direct_remote_ip (one_client value i j x y) ∙ sym q
 one_claim facts.SourcePort value a b (i, (x, u, is), p) (j, (y, v, was), q) = cc
 one_claim (facts.Mtls is) value a b p q = p ∙ sym q
 one_claim facts.RequestedServerName value a b p q = p ∙ sym q

@@ -1,18 +1,19 @@
 -- What the fields of a front proxy say of its client (RFC 9110, sections 5.5, 7.2 and 9.1).
-use Rattle.std.specs.Prelude.{◌≡◌, ◌/◌, ℕ, ◌≤◌, ◌<◌, ◌-◌, ◌^◌, Bool, false, ◌&&◌, ◌||◌, ◌==◌, nat_lt, IsTrue, List, [], ◌∷◌, Option, None, Some, codes, drop, length, slice_get, take}
+use Rattle.std.specs.Prelude.{◌≡◌, ℕ, ◌≤◌, ◌<◌, ◌-◌, ◌^◌, Bool, false, ◌&&◌, ◌||◌, ◌==◌, nat_lt, IsTrue, List, [], ◌∷◌, Option, None, Some, codes, drop, length, option_map, slice_get, take}
 use Rattle.std.specs.Char.{is_ascii_whitespace}
 use Rattle.std.specs.List.{list_all, prefix_len, slice_split, suffix_len}
 use Rattle.std.specs.Str.{bytes_eq}
 use Rattle.std.specs.Str.Parse.{IsNumeral, digits_value}
 use Rattle.std.specs.String.{string_bytes}
-use Rattle.attributes.specs.Address.{IsIpText}
+use Rattle.attributes.specs.Address.{IsIpText, unmapped}
+use Rattle.attributes.specs.Conn.{server_name}
 use Rattle.attributes.specs.declared.address.Ip.{Ip}
-use Rattle.attributes.specs.declared.address.Ip.TheVariants as ips
 use Rattle.httparse.specs.Grammar.{is_token, is_uri_byte}
 use Rattle.head_map.specs.declared.fact.Fact.{Fact}
 use Rattle.head_map.specs.declared.fact.Fact.TheVariants as facts
 
--- what a field says: a part of the client's request, or a fact of its connection
+-- what a field says: a part of the client's request, or a fact of its connection. Addresses and the name of a server are in
+-- their one form
 pub data Claim : Type 0 where
   method : List ℕ → Claim
   target : List ℕ → Claim
@@ -66,14 +67,9 @@ abbrev pub IsFromRight : ℕ → List (List ℕ) → List ℕ → Type 0
 IsFromRight place parts part =
     (1 ≤ place) × (place ≤ length parts) × (slice_get parts (length parts - place) ≡ Some part)
 
--- an IPv6 address that means an IPv4 address: 80 zeros and 16 ones begin it (RFC 4291, section 2.5.5.2)
-abbrev pub IsMappedIp : Ip → Type 0
-IsMappedIp (ips.V4 n) = ⊥
-IsMappedIp (ips.V6 n) = n / 2 ^ 32 ≡ 65535
-
--- the address that a text spells. None that means an IPv4 address, which rules on IPv4 would not match
+-- the address that a text spells, in its one form: one of IPv4, if it is written as one of IPv6
 abbrev pub IsClientIp : List ℕ → Ip → Type 0
-IsClientIp text ip = IsIpText text ip × ¬ (IsMappedIp ip)
+IsClientIp text ip = (spelled : Ip) × IsIpText text spelled × (ip ≡ unmapped spelled)
 
 -- the list's address at this place from the right, without white space around it (RFC 9110, section 5.6.1)
 abbrev pub IsForwarded : ℕ → List ℕ → Ip → Type 0
@@ -99,7 +95,7 @@ Reads facts.DirectRemoteIp value claim =
 Reads facts.SourcePort value claim =
     (port : ℕ) × IsPortText value port × (claim ≡ source_port port)
 Reads (facts.Mtls is) value claim = claim ≡ mtls (bytes_eq value (string_bytes is))
-Reads facts.RequestedServerName value claim = claim ≡ requested_server_name (text_of value)
+Reads facts.RequestedServerName value claim = claim ≡ requested_server_name (option_map server_name (text_of value))
 Reads facts.SubjectPeerCertificate value claim = claim ≡ subject_peer_certificate (text_of value)
 Reads facts.DnsSanPeerCertificate value claim = claim ≡ dns_san_peer_certificate (text_of value)
 Reads facts.UriSanPeerCertificate value claim = claim ≡ uri_san_peer_certificate (text_of value)

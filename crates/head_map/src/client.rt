@@ -1,7 +1,7 @@
 //! The request and the facts of a client, put together from the claims of fields.
 ghost use Rattle.std.specs.Prelude.{◌≡◌, ◌∷◌, [], List, Any, IfOk, MatchResult, OnOk, option_map};
 ghost use Rattle.std.specs.String.{string_bytes};
-ghost use Rattle.attributes.specs.Conn.{text_view};
+ghost use Rattle.attributes.specs.Conn.{server_name, text_view};
 ghost use Rattle.attributes.specs.Headers.{Entry, lines_view, values_of};
 ghost use Rattle.head_map.specs.Mapped.{Says, SaysFault, put};
 ghost use Rattle.head_map.specs.private.Client.{IsClaimedBy, client_view};
@@ -10,7 +10,7 @@ ghost use Rattle.head_map.specs.private.FieldClaims.{claim_of};
 use crate::fact::{MapFault, NamedFact};
 use crate::field_claim::{FieldClaim, read};
 use crate::lines::value_of;
-use attributes::Conn;
+use attributes::{Conn, server_name};
 use std::alloc::{AllocError, Global};
 use std::sync::ArcStr;
 
@@ -59,7 +59,7 @@ impl Client {
             FieldClaim::SourcePort(port) => self.conn.source_port = Some(port),
             FieldClaim::Mtls(is) => self.conn.mtls = Some(is),
             FieldClaim::RequestedServerName(text) => {
-                self.conn.requested_server_name = fact_text(alloc, text)?
+                self.conn.requested_server_name = fact_name(alloc, text)?
             }
             FieldClaim::SubjectPeerCertificate(text) => {
                 self.conn.subject_peer_certificate = fact_text(alloc, text)?
@@ -81,6 +81,17 @@ fn fact_text(alloc: Global, text: Option<&str>) -> Result<Option<ArcStr>, AllocE
 {
     match text {
         Some(text) => Ok(Some(ArcStr::from_str(alloc, text)?)),
+        None => Ok(None),
+    }
+}
+
+// The name of a server, if there is one, in its one form.
+fn fact_name(alloc: Global, text: Option<&str>) -> Result<Option<ArcStr>, AllocError>
+    ensures { IfOk result (λ copy.
+        text_view copy ≡ option_map server_name (option_map (λ t. t.now) text.entry)) }
+{
+    match text {
+        Some(text) => Ok(Some(server_name(alloc, text)?)),
         None => Ok(None),
     }
 }

@@ -4,7 +4,7 @@ ghost use Rattle.std.specs.Option.{option_copied};
 ghost use Rattle.attributes.specs.declared.address.Ip.{Ip};
 ghost use Rattle.httparse.specs.Grammar.{is_token, is_uri_byte};
 ghost use Rattle.std.specs.List.{list_all};
-ghost use Rattle.head_map.specs.Claims.{Claim, IsClientIp, IsForwarded, IsFromRight, IsMappedIp, IsPortText, Reads, begins_with_slash, is_host, is_scheme, is_target, parts_of, text_of, without_back_blanks, without_front_blanks};
+ghost use Rattle.head_map.specs.Claims.{Claim, IsClientIp, IsForwarded, IsFromRight, IsPortText, Reads, begins_with_slash, is_host, is_scheme, is_target, parts_of, text_of, without_back_blanks, without_front_blanks};
 ghost use Rattle.head_map.specs.private.FieldClaims.{claim_of};
 
 use crate::fact::Fact;
@@ -137,24 +137,13 @@ fn forwarded(place: usize, value: &str) -> Option<Ip>
     client_ip(part_from_right(place, value)?.trim_ascii())
 }
 
-// The address that the text spells, if it does not mean an IPv4 address.
+// The address that the text spells, in its one form.
 fn client_ip(text: &str) -> Option<Ip>
-    ensures { (ip : Ip) → (result ≡ Some ip) ↔ IsClientIp text.now ip }
+    ensures { MatchOption result ((ip : Ip) → ¬ (IsClientIp text.now ip)) (IsClientIp text.now) }
 {
-    let ip = parse_ip(text)?;
-    if is_mapped(ip) {
-        return None;
-    }
-    Some(ip)
-}
-
-// Whether the address means an IPv4 address.
-fn is_mapped(ip: Ip) -> bool
-    ensures { IsTrue result ↔ IsMappedIp ip }
-{
-    match ip {
-        Ip::V4(_) => false,
-        Ip::V6(number) => number >> 32 == 0xffff,
+    match parse_ip(text) {
+        Some(ip) => Some(ip.unmapped()),
+        None => None,
     }
 }
 

@@ -2,12 +2,13 @@
 ghost use Rattle.std.specs.Prelude.{◌≡◌, ◌++◌, IfOk, OnOk, codes};
 ghost use Rattle.std.specs.String.{string_bytes};
 ghost use Rattle.attributes.specs.Headers.{lines_view};
-ghost use Rattle.attributes.specs.Request.{protocol_of};
+ghost use Rattle.attributes.specs.Request.{head_protocol, protocol_of};
 ghost use Rattle.httparse.specs.Ascii.{crlf_bytes};
 ghost use Rattle.head_map.specs.Heads.{field_line, field_lines, head_of};
 ghost use Rattle.head_map.specs.Mapped.{parts_view};
 
 use crate::parts::Parts;
+use attributes::Protocol;
 use std::alloc::{AllocError, Global};
 
 /// The head of the request with these parts, as it is written. It is of HTTP/1.1 or, if not, of HTTP/1.0.
@@ -23,21 +24,15 @@ pub fn head_of(alloc: Global, parts: &Parts, http11: bool) -> Result<String, All
 // The request line.
 fn request_line(alloc: Global, parts: &Parts, http11: bool) -> Result<String, AllocError>
     ensures { let p = parts_view parts.now in IfOk result (λ text. string_bytes text
-        ≡ p.method ++ codes " " ++ p.target ++ codes " " ++ protocol_of http11 ++ crlf_bytes) }
+        ≡ p.method ++ codes " " ++ p.target ++ codes " " ++ protocol_of (head_protocol http11) ++ crlf_bytes) }
 {
     let mut text = String::from_str(alloc, parts.method.as_str())?;
     text.push_str(" ")?;
     text.push_str(parts.target.as_str())?;
     text.push_str(" ")?;
-    text.push_str(protocol_text(http11))?;
+    text.push_str(Protocol::of_head(http11).text())?;
     text.push_str("\r\n")?;
     Ok(text)
-}
-
-fn protocol_text(http11: bool) -> &'static str
-    ensures { result.now ≡ protocol_of http11 }
-{
-    if http11 { "HTTP/1.1" } else { "HTTP/1.0" }
 }
 
 // Appends the field lines.

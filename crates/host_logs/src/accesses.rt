@@ -1,11 +1,17 @@
 //! The log of decisions.
+ghost use Rattle.std.specs.Prelude.{◌≡◌, ◌≢◌, ◌-◌, [], None, length, option_map, slice_get};
+ghost use Rattle.ads.specs.Config.{names_of};
+ghost use Rattle.ads.specs.Ends.{client_view};
+ghost use Rattle.ads.specs.Views.{policies_view};
+ghost use Rattle.host_logs.specs.Names.{matched_name};
 
 use crate::connections::Connection;
-use ads::Client;
+use ads::{Client, Config};
 use fault_texts::rule_of;
 use head_map::Parts;
 use http_front::{Ask, Case};
 use proxy_core::AnsweredAsk;
+use rbac_policy::Admitted;
 use serve_admin::Verdict;
 use serve_log::{Decision, LogFile, LogFiles, RecordPosition, decision_line};
 use std::alloc::Global;
@@ -127,10 +133,7 @@ fn decision_of<'a>(answered_ask: &'a AnsweredAsk, context: &DecisionContext<'a>)
         Ask::Judge(request, _) => Some(request),
         Ask::Fault(_) => None,
     };
-    let (filter, policy) = match answered_ask.reply.matches.len().checked_sub(1) {
-        Some(last) => names_of(answered_ask, context.client, last),
-        None => (None, None),
-    };
+    let (filter, policy) = names_of(context.client, &answered_ask.reply.matches);
     Decision {
         time: context.time,
         connection: context.connection.number,
@@ -163,24 +166,47 @@ fn decision_of<'a>(answered_ask: &'a AnsweredAsk, context: &DecisionContext<'a>)
     }
 }
 
-// The name of the filter that was tried last, and of its policy that matched.
-fn names_of<'a>(
-    answered_ask: &AnsweredAsk,
-    client: &'a Client,
-    last: usize,
-) -> (Option<&'a str>, Option<&'a str>) {
-    let filter = match client.config().filters().keys().nth(last) {
-        Some(name) => Some(name.as_str()),
+// The names of the filter that was tried last and of its policy that matched; none if no filter was tried.
+fn names_of<'a>(client: &'a Client, matches: &[Option<usize>]) -> (Option<&'a str>, Option<&'a str>)
+    ensures none { matches.now ≡ [] → (result.0 ≡ None) × (result.1 ≡ None) }
+    ensures filter { matches.now ≢ [] → option_map (λ name. name.now) result.0
+        ≡ slice_get (names_of (client_view client.now).config.filters) (length matches.now - 1) }
+    ensures policy { matches.now ≢ [] → option_map (λ name. name.now) result.1
+        ≡ matched_name (slice_get (client_view client.now).accepted.policies (length matches.now - 1))
+        (slice_get matches.now (length matches.now - 1)) }
+{
+    if matches.is_empty() {
+        return (None, None);
+    }
+    let last = matches.len() - 1;
+    let filter = filter_name(client.config(), last);
+    let policy = policy_name(client.policies(), matches, last);
+    (filter, policy)
+}
+
+// The name of the filter in this place.
+fn filter_name(config: &Config, place: usize) -> Option<&str>
+    ensures { option_map (λ name. name.now) result ≡ slice_get (names_of config.now.filters) place }
+{
+    match config.filters().get_index(place) {
+        Some((name, _)) => Some(name.as_str()),
         None => None,
-    };
-    let policy = match (
-        client.policies().get(last),
-        answered_ask.reply.matches.get(last),
-    ) {
+    }
+}
+
+// The name of the policy that matched in the filter in this place.
+fn policy_name<'a>(
+    policies: &'a [Option<Admitted>],
+    matches: &[Option<usize>],
+    place: usize,
+) -> Option<&'a str>
+    ensures { option_map (λ name. name.now) result
+        ≡ matched_name (slice_get (policies_view policies.now) place) (slice_get matches.now place) }
+{
+    match (policies.get(place), matches.get(place)) {
         (Some(Some(admitted)), Some(Some(number))) => admitted.policy_name(*number),
         _ => None,
-    };
-    (filter, policy)
+    }
 }
 
 /// The verdict that is counted for an answer.

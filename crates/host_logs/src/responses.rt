@@ -1,4 +1,6 @@
 //! The judgements of a control plane's responses, for the log of updates and the status.
+ghost use Rattle.std.specs.Prelude.{◌≡◌, IfOk};
+ghost use Rattle.host_logs.specs.Places.{places_from};
 
 use ads::{Config, Judgement, Refused};
 use fault_texts::{ResponseFault, fault_of};
@@ -7,7 +9,9 @@ use serve_log::{Acknowledged, Update};
 use std::alloc::{AllocError, Global};
 
 /// The places in the configuration of the filters to which a response gave policies.
-pub fn places_of(alloc: Global, given: &[bool]) -> Result<Vec<usize>, AllocError> {
+pub fn places_of(alloc: Global, given: &[bool]) -> Result<Vec<usize>, AllocError>
+    ensures { IfOk result (λ places. places.items ≡ places_from 0 given.now) }
+{
     let mut places = Vec::new(alloc);
     for (place, is_given) in given.iter().enumerate() {
         if *is_given {

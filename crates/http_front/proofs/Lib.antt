@@ -20,4 +20,5 @@ pub mod Framings
 pub mod RuleLemmas
 pub mod Spelling
 pub mod SpelledAsks
+pub mod AskOrFail
 pub mod StandardFacts

@@ -9,7 +9,7 @@ use Rattle.attributes.specs.Conn.{Facts}
 use Rattle.attributes.specs.Draft.{DraftValue, first_draft, with_entries}
 use Rattle.attributes.specs.Headers.{Entry, line_entry}
 use Rattle.attributes.specs.Limits.{InLimits, LimitsValue}
-use Rattle.attributes.specs.Request.{RequestValue, request_of}
+use Rattle.attributes.specs.Request.{RequestValue, head_protocol, in_protocol, request_of}
 use Rattle.httparse.specs.Grammar.{IsRequestHead, RequestHead, print_request, trim_ows}
 use Rattle.httparse.specs.Spans.{name_and_value}
 use Rattle.http_front.specs.declared.fault.HeadFault.{HeadFault}
@@ -233,7 +233,7 @@ module _ (method target : List ℕ) (http11 : Bool) (front back : List Entry) wh
   pub spelled_request : (d e f : DraftValue) (r : RequestValue) (facts : Facts) → d ≡ first_draft method target
       → e ≡ with_entries d (map line_entry front_lines) → f ≡ with_entries e (map line_entry back_lines)
       → ((lines : List Entry) → f.entries ≡ map line_entry lines
-      → r ≡ request_of f.method f.target http11 lines facts)
+      → r ≡ request_of f.method f.target (head_protocol http11) lines facts)
       → r ≡ request_of_head (head_of tree) facts
   spelled_request d e f r facts first second third made =
       let lines : List Entry = lines_of (head_of tree) in
@@ -244,8 +244,8 @@ module _ (method target : List ℕ) (http11 : Bool) (front back : List Entry) wh
       ∙ drafted begun (head_fields front) (head_fields back)
       ∙ ap (λ (fs : List Entry). with_entries begun (map line_entry (map lowered fs))) (sym own_fields) in
       made lines (ap (λ (x : DraftValue). x.entries) whole)
-      ∙ ap (λ (x : DraftValue). request_of x.method x.target http11 lines facts) whole
-      ∙ ap (λ (b : Bool). request_of method target b lines facts) (sym (version_is http11))
+      ∙ ap (λ (x : DraftValue). request_of x.method x.target (head_protocol http11) lines facts) whole
+      ∙ ap (λ (b : Bool). request_of method target (head_protocol b) lines facts) (sym (version_is http11))
 
 -- ---- parts
 
@@ -278,15 +278,17 @@ module _ (p : PartsValue) (limits : LimitsValue) (facts : Facts) (h : RequestHea
 
     -- the request of the head is asked for
     pub parts_asked : (r : RequestValue) → ((fault : HeadFault) → ¬ (RuleFault (head_of h) fault))
-        → (r ≡ q) × InLimits q limits → PartsAsk p limits facts r
+        → (r ≡ in_protocol p.protocol q) × InLimits q limits → PartsAsk p limits facts r
     parts_asked r sound (is, within) = record {
       shape = own_shape;
+      spelled = q;
       asks = record {
         head = head_of (spelled_head p);
         rest = [];
         starts = starts;
-        request = is ∙ rw same at made;
+        request = rw same at made;
         keeps_rules = rw same at sound;
-        in_limits = rw (← is) at within;
+        in_limits = within;
       };
+      request = is;
     }

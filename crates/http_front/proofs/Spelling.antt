@@ -1,19 +1,22 @@
 -- The head that parts spell: its lines, its bytes, and what they ask.
-use Rattle.std.proofs.Common.{◌≡◌, ◌∙◌, ℕ, zero, suc, ◌+◌, ◌<◌, ◌≤◌, ◌==◌, Bool, true, false, List, [], ◌∷◌, ◌++◌, All, Any, ap, arith, append_assoc, append-nil, codes, cond, get_or, length, length-append, map, refl, sym, take, true≢false}
+use Rattle.std.proofs.Common.{◌≡◌, ◌∙◌, ℕ, zero, suc, ◌+◌, ◌<◌, ◌≤◌, ◌==◌, Bool, true, false, List, [], ◌∷◌, ◌++◌, All, Any, ap, arith, append_assoc, append-nil, codes, cond, get_or, length, length-append, lit≤, map, refl, sym, take, true≢false}
 use Rattle.std.specs.Prelude.{IfNone, Option, Some, None}
 use Rattle.std.specs.List.{flat_map, list_all}
 use Rattle.std.proofs.lemmas.Grind.{flat_map-append}
 use Rattle.std.proofs.lemmas.Bool.{and_from, and_parts, lt-ltb, ltb-true}
 use Rattle.std.proofs.lemmas.List.{get_or-map, length-map, map-append}
 use Rattle.http_front.proofs.FieldLists.{map_take_more, none_has}
+use Rattle.http_front.proofs.Requests.{asked_request}
 use Rattle.http_front.proofs.Rooms.{asks_or_fault, one_ask}
 use Rattle.std.proofs.lemmas.List.Elements.{All-append, All-push}
 use Rattle.std.proofs.lemmas.List.Sums.{list_all-from_AllPass}
 use Rattle.http_header.proofs.TokenLemmas.{AllPass-from_test}
-use Rattle.attributes.specs.Conn.{Facts}
+use Rattle.attributes.specs.Conn.{AreFacts, Facts}
 use Rattle.attributes.specs.Headers.{Entry}
-use Rattle.attributes.specs.Limits.{LimitsValue}
-use Rattle.attributes.specs.Request.{RequestValue, request_of}
+use Rattle.attributes.specs.Limits.{InLimits, LimitsValue}
+use Rattle.attributes.specs.Request.{IsRequest, RequestValue, head_protocol, in_protocol, protocol_of, request_of}
+use Rattle.attributes.specs.declared.protocol.Protocol.{Protocol}
+use Rattle.attributes.specs.declared.protocol.Protocol.TheVariants.{Http10, Http11, Http2, Http3}
 use Rattle.httparse.specs.Ascii.{crlf_bytes}
 use Rattle.httparse.specs.Grammar.{AllPass, Field, IsField, IsRequestHead, IsToken, ReadsRequest, RequestHead, is_token, is_token_byte, is_value_byte, print_field, print_request, print_version}
 use Rattle.httparse.proofs.GrammarLemmas.{cons-append, request_unique}
@@ -215,6 +218,17 @@ not_malformed h shape parts.Version bad = bad
 not_malformed h shape parts.LineEnd bad = bad
 not_malformed h shape parts.FoldedLine bad = bad
 
+-- how long protocols are as text
+head_protocol_length : (http11 : Bool) → length (protocol_of (head_protocol http11)) ≡ 8
+head_protocol_length true = refl
+head_protocol_length false = refl
+
+protocol_short : (protocol : Protocol) → length (protocol_of protocol) ≤ 8
+protocol_short Http10 = lit≤ tt
+protocol_short Http11 = lit≤ tt
+protocol_short Http2 = lit≤ tt
+protocol_short Http3 = lit≤ tt
+
 -- the number of a version says which it is
 pub version_is : (http11 : Bool) → (cond http11 1 0 == 1) ≡ http11
 version_is true = refl
@@ -226,20 +240,51 @@ module _ (p : PartsValue) (limits : LimitsValue) (facts : Facts) where
       → PartsFault p limits facts fault → ⊥
   parts_or_fault r fault asks x = elim x [
     | PartsFault.malformed part bad e ↦ not_malformed (spelled_head p) asks.shape part bad
-    | PartsFault.spelled shape has ↦ asks_or_fault (parts_text p) limits facts r fault asks.asks has
+    | PartsFault.spelled shape has ↦ asks_or_fault (parts_text p) limits facts asks.spelled fault asks.asks has
   ]
 
   -- they ask for one request at most
   pub one_by_parts : (r q : RequestValue) → PartsAsk p limits facts r → PartsAsk p limits facts q → r ≡ q
-  one_by_parts r q x y = one_ask (parts_text p) limits facts r q x.asks y.asks
+  one_by_parts r q x y =
+      let spelled = one_ask (parts_text p) limits facts x.spelled y.spelled x.asks y.asks in
+      x.request ∙ ap (in_protocol p.protocol) spelled ∙ sym y.request
 
   -- which is that of the parts
   pub request_by_parts : (r : RequestValue) → PartsAsk p limits facts r
-      → r ≡ request_of p.method p.target p.http11 (lines_of (head_of (spelled_head p))) facts
+      → r ≡ request_of p.method p.target p.protocol (lines_of (head_of (spelled_head p))) facts
   request_by_parts r x =
-      x.asks.request
-      ∙ ap (λ h. request_of_head h facts) (parts_head p x.shape x.asks.head x.asks.rest x.asks.starts)
-      ∙ ap (λ b. request_of p.method p.target b (lines_of (head_of (spelled_head p))) facts) (version_is p.http11)
+      x.request
+      ∙ ap (in_protocol p.protocol) (x.asks.request
+      ∙ ap (λ h. request_of_head h facts) (parts_head p x.shape x.asks.head x.asks.rest x.asks.starts))
+
+  -- which is within the limits: its protocol is no longer as text than that of the head
+  pub parts_in_limits : (r : RequestValue) → PartsAsk p limits facts r → InLimits r limits
+  parts_in_limits r x =
+      let within = x.asks.in_limits in
+      let own : length (protocol_of x.spelled.protocol) ≡ 8 =
+      ap (λ (q : RequestValue). length (protocol_of q.protocol)) x.asks.request ∙ head_protocol_length x.asks.head.http11 in
+      let short = protocol_short p.protocol in
+      rw x.request (record {
+        count = within.count;
+        headers = within.headers;
+        method = within.method;
+        target = within.target;
+        protocol = omega (arith, within.protocol, own, short);
+        facts = within.facts;
+      })
+
+  -- and is a request, on a connection whose facts are facts
+  pub parts_request : (r : RequestValue) → PartsAsk p limits facts r → AreFacts facts → IsRequest r
+  parts_request r x sound =
+      let spelled = asked_request (parts_text p) limits facts x.spelled x.asks sound in
+      rw x.request (record {
+        method = spelled.method;
+        target = spelled.target;
+        lines = spelled.lines;
+        headers = spelled.headers;
+        few = spelled.few;
+        facts = spelled.facts;
+      })
 
   -- what the head's own tests find is a fault of the parts
   pub spelling_fault : (fault : HeadFault) → IsSpellingFault (spelled_head p) fault → PartsFault p limits facts fault

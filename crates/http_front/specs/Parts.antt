@@ -1,10 +1,12 @@
 -- The parts of a request, and the head that they spell (RFC 9112, sections 3 and 5; RFC 9113, section 8.3).
-use Rattle.std.specs.Prelude.{◌≡◌, ◌<◌, ℕ, Bool, ◌&&◌, List, [], ◌∷◌, Any, IsUtf8, codes, if◌then◌else◌, length, map}
+use Rattle.std.specs.Prelude.{◌≡◌, ◌<◌, ◌⊎◌, ℕ, Bool, true, false, ◌&&◌, List, [], ◌∷◌, Any, IsUtf8, codes, if◌then◌else◌, length, map}
 use Rattle.std.specs.Str.{bytes_eq}
 use Rattle.attributes.specs.Conn.{Facts}
 use Rattle.attributes.specs.Headers.{Entry}
 use Rattle.attributes.specs.Limits.{LimitsValue}
-use Rattle.attributes.specs.Request.{RequestValue}
+use Rattle.attributes.specs.Request.{RequestValue, in_protocol}
+use Rattle.attributes.specs.declared.protocol.Protocol.{Protocol}
+use Rattle.attributes.specs.declared.protocol.Protocol.TheVariants.{Http10, Http11, Http2, Http3}
 use Rattle.http_header.specs.Token.{lowercase}
 use Rattle.httparse.specs.Grammar.{AllPass, Field, IsRequestHead, IsToken, RequestHead, crlf, is_uri_byte, is_value_byte, print_request, trim_ows}
 use Rattle.http_front.specs.declared.fault.HeadFault.{HeadFault}
@@ -15,12 +17,12 @@ use Rattle.http_front.specs.declared.parts.HeadParts.{HeadParts}
 use Rattle.http_front.specs.declared.parts.Line.{Line}
 use Rattle.http_front.specs.Asks.{HasFault, HeadAsks}
 
--- the parts of a request: its method, its target, whether it is of HTTP/1.1 or else of HTTP/1.0, and its fields in order.
--- A field is a name in any case, and a value with the white space around it
+-- the parts of a request: its method, its target, its protocol, and its fields in order. A field is a name in any case,
+-- and a value with the white space around it
 pub record PartsValue : Type 0 where
   pub method : List ℕ
   pub target : List ℕ
-  pub http11 : Bool
+  pub protocol : Protocol
   pub fields : List Entry
 
 -- the field that a `Line` of the code means
@@ -32,7 +34,7 @@ abbrev pub parts_view : HeadParts → PartsValue
 parts_view parts = record {
   method = parts.method.now;
   target = parts.target.now;
-  http11 = parts.is_http11;
+  protocol = parts.protocol;
   fields = map field_view parts.lines.now;
 }
 
@@ -77,9 +79,18 @@ head_with method target http11 fields = record {
   last = crlf;
 }
 
+-- whether a request of this protocol is spelled as a head of HTTP/1.1, or else of HTTP/1.0: HTTP/1.1 spells the later
+-- protocols too
+abbrev pub spells_http11 : Protocol → Bool
+spells_http11 Http10 = false
+spells_http11 Http11 = true
+spells_http11 Http2 = true
+spells_http11 Http3 = true
+
 -- the head that the parts spell, as a tree of the grammar. A Host that repeats `:authority` is left out
 abbrev pub spelled_head : PartsValue → RequestHead
-spelled_head p = head_with p.method p.target p.http11 (without_repeated p.fields p.fields)
+spelled_head p =
+    head_with p.method p.target (spells_http11 p.protocol) (without_repeated p.fields p.fields)
 
 -- the bytes of that head
 abbrev pub parts_text : PartsValue → List ℕ
@@ -101,11 +112,14 @@ IsMalformedIn h Method = ¬ (IsToken h.method)
 IsMalformedIn h Target = ¬ (IsTarget h.target)
 IsMalformedIn h part = AreMalformedIn h.fields part
 
--- the parts ask for the request `r`: they spell a head of the grammar, and its bytes ask for `r`
+-- the parts ask for the request `r`: they spell a head of the grammar, whose bytes ask for a request. `r` is that
+-- request, of the parts' protocol
 pub record PartsAsk (p : PartsValue) (limits : LimitsValue) (facts : Facts)
     (r : RequestValue) : Type 0 where
   pub shape : IsRequestHead (spelled_head p)
-  pub asks : HeadAsks (parts_text p) limits facts r
+  pub spelled : RequestValue
+  pub asks : HeadAsks (parts_text p) limits facts spelled
+  pub request : r ≡ in_protocol p.protocol spelled
 
 -- the parts have this fault: the head that they spell is not of the grammar, or its bytes have the fault
 pub data PartsFault (p : PartsValue) (limits : LimitsValue) (facts : Facts)
@@ -114,3 +128,8 @@ pub data PartsFault (p : PartsValue) (limits : LimitsValue) (facts : Facts)
       → PartsFault p limits facts fault
   spelled : IsRequestHead (spelled_head p) → HasFault (parts_text p) limits facts fault
       → PartsFault p limits facts fault
+
+-- the parts ask for a request, or they have a fault
+abbrev pub PartsAskOrFail : PartsValue → LimitsValue → Facts → Type 0
+PartsAskOrFail p limits facts = ((r : RequestValue) × PartsAsk p limits facts r)
+    ⊎ ((fault : HeadFault) × PartsFault p limits facts fault)

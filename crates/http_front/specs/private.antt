@@ -6,3 +6,4 @@ pub mod Parts
 pub mod Turns
 pub mod Scans
 pub mod Rows
+pub mod Stops

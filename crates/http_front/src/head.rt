@@ -18,7 +18,7 @@ use crate::fault::{HeadFault, HeadPart};
 use crate::fields::{add_fields, lower_lines, text_of};
 use crate::framing::framing_of;
 use crate::part::part_of;
-use attributes::{Conn, Draft, Limit, Limits, Request, Room};
+use attributes::{Conn, Draft, Limit, Limits, Protocol, Request, Room};
 use httparse::spans::{HeaderSpan, parse_request};
 use httparse::{Error, Status};
 use std::alloc::{AllocError, Global};
@@ -146,7 +146,7 @@ impl<'a> Head<'a> {
         };
         let mut draft = Draft::new(alloc, text_of(self.method), text_of(self.target), room)?;
         add_fields(&mut draft, self.bytes, self.fields)?;
-        draft.finish(alloc, self.is_http11, conn)
+        draft.finish(alloc, Protocol::of_head(self.is_http11), conn)
     }
 
     /// The field lines of the head, each a name in lower case and a value.

@@ -6,6 +6,7 @@ mod ask;
 mod body;
 mod by_parts;
 mod closing;
+pub mod deciding;
 mod fault;
 mod fields;
 mod framing;

@@ -4,6 +4,7 @@ ghost use Rattle.httparse.specs.Grammar.{trim_ows};
 ghost use Rattle.http_front.specs.Parts.{field_view, is_authority, is_host_of, line_name};
 
 use crate::closing::trim_ows;
+use attributes::Protocol;
 use std::str;
 
 /// A field: its name in any case, and its value. Its layout is C's, so that a list of fields from C is not copied.
@@ -23,8 +24,8 @@ pub struct HeadParts<'a> {
     pub method: &'a [u8],
     /// The target, as a head of HTTP/1 has it: `:path` of HTTP/2.
     pub target: &'a [u8],
-    /// True for HTTP/1.1 and later versions, which includes HTTP/2; false for HTTP/1.0.
-    pub is_http11: bool,
+    /// The protocol. HTTP/2 and HTTP/3 have the rules of a head of HTTP/1.1.
+    pub protocol: Protocol,
     /// The fields in order, with the host as `host` or `:authority` and no other pseudo-header.
     pub lines: &'a [Line<'a>],
 }

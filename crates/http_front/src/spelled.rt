@@ -4,12 +4,13 @@ ghost use Rattle.std.specs.List.{flat_map};
 ghost use Rattle.httparse.specs.Ascii.{crlf_bytes};
 ghost use Rattle.httparse.specs.Grammar.{IsField, IsRequestHead, print_field, print_request, print_version};
 ghost use Rattle.http_front.specs.Head.{head_room};
-ghost use Rattle.http_front.specs.Parts.{AreMalformedIn, IsMalformedIn, IsTarget, field_view, line_of, parts_view, spelled_head, without_host, without_repeated};
+ghost use Rattle.http_front.specs.Parts.{AreMalformedIn, IsMalformedIn, IsTarget, field_view, line_of, parts_view, spelled_head, spells_http11, without_host, without_repeated};
 ghost use Rattle.http_front.specs.private.Parts.{IsLineMalformedIn, IsSpellingFault, head_in};
 
 use crate::fault::{HeadFault, HeadPart};
 use crate::parts::{HeadParts, Line};
 use crate::read::HEAD_ROOM;
+use attributes::Protocol;
 use httparse::{is_header_value, is_token, is_uri_token};
 use std::alloc::{AllocError, Global};
 use std::str;
@@ -39,7 +40,7 @@ impl<'a> Spelled<'a> {
         Spelled {
             method: parts.method,
             target: parts.target,
-            is_http11: parts.is_http11,
+            is_http11: spells_http11(parts.protocol),
             front,
             back,
         }
@@ -86,6 +87,16 @@ impl<'a> Spelled<'a> {
         let left = left.checked_sub(self.target.len())?;
         let left = left_after(left, self.front)?;
         left_after(left, self.back)
+    }
+}
+
+/// Whether a request of this protocol is spelled as a head of HTTP/1.1, or else of HTTP/1.0.
+fn spells_http11(protocol: Protocol) -> bool
+    ensures { result ≡ spells_http11 protocol }
+{
+    match protocol {
+        Protocol::Http10 => false,
+        Protocol::Http11 | Protocol::Http2 | Protocol::Http3 => true,
     }
 }
 

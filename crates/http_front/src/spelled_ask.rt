@@ -20,7 +20,7 @@ use crate::framing::Framing;
 use crate::head::is_origin_form;
 use crate::parts::Line;
 use crate::spelled::Spelled;
-use attributes::{Conn, Draft, Limit, Limits, Request, Room};
+use attributes::{Conn, Draft, Limit, Limits, Protocol, Request, Room};
 use std::alloc::{AllocError, Global};
 use std::sync::Arc;
 
@@ -94,7 +94,7 @@ impl<'a> Spelled<'a> {
         let mut draft = Draft::new(alloc, text_of(self.method), text_of(self.target), room)?;
         draft_lines(&mut draft, self.front)?;
         draft_lines(&mut draft, self.back)?;
-        draft.finish(alloc, self.is_http11, conn)
+        draft.finish(alloc, Protocol::of_head(self.is_http11), conn)
     }
 }
 

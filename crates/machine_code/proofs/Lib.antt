@@ -12,3 +12,4 @@ pub mod SoundSteps
 pub mod Sound
 pub mod Chains
 pub mod Growing
+pub mod KindNumbers

@@ -1,8 +1,4 @@
 -- Definitions that only clauses of private functions and proofs use.
 pub mod Places
 pub mod Holding
-pub mod Branches
-pub mod Packing
-pub mod Lent
-pub mod Beside
-pub mod Words
+pub mod Keeping

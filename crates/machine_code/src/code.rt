@@ -2,8 +2,8 @@
 
 ghost use Rattle.std.specs.Prelude.{◌≡◌, ◌≢◌, None, ◌∷◌, ◌++◌, [], ◌<◌, ◌≤◌, ◌^◌, ◌⊎◌, length, slice_get, Err, IfOk, IfErr, OnOk, Some, option_map, vec_len};
 ghost use Rattle.machine_code.specs.Instructions.{code_view, instr_view};
-ghost use Rattle.machine_code.specs.private.Lent.{op_view};
-ghost use Rattle.machine_code.specs.private.Words.{word_view};
+ghost use Rattle.machine_code.specs.Lent.{op_view};
+ghost use Rattle.machine_code.specs.Words.{word_view};
 
 use crate::instr::Instr;
 use crate::op::Op;
@@ -30,8 +30,8 @@ impl Model for Code {
     ghost coded = { Prim.hlevel (codes, types.the_row.coded) };
 
     ghost use Rattle.std.specs.List.{AllByRecursion};
-    ghost use Rattle.machine_code.specs.private.Beside.{parts};
-    ghost use Rattle.machine_code.specs.private.Packing.{IsSpelled, instrs_of};
+    ghost use Rattle.machine_code.specs.Pools.{parts};
+    ghost use Rattle.machine_code.specs.Packing.{IsSpelled, instrs_of};
 
     ghost view = { λ c. instrs_of (parts c.pools) c.words.items };
 

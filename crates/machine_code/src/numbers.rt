@@ -1,7 +1,7 @@
 //! The parts of a word, and the numbers in it of attributes, operations and types of keys.
 
 ghost use Rattle.std.specs.Prelude.{◌≡◌, ◌+◌, ◌*◌, ◌/◌, ◌%◌, ◌<◌, Some, slice_get};
-ghost use Rattle.machine_code.specs.private.Packing.{attribute_table, key_table, operation_table};
+ghost use Rattle.machine_code.specs.Packing.{attribute_table, key_table, operation_table};
 
 use attributes::AttrId;
 use cel_ops::{ArithmeticOp, CompareOp, Conversion, Operation, TextTest};

@@ -2,7 +2,7 @@
 
 ghost use Rattle.std.specs.Prelude.{◌≡◌, IfOk};
 ghost use Rattle.machine_code.specs.Instructions.{instr_view};
-ghost use Rattle.machine_code.specs.private.Lent.{op_view};
+ghost use Rattle.machine_code.specs.Lent.{op_view};
 
 use crate::instr::{Constant, Instr};
 use attributes::AttrId;

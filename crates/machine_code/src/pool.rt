@@ -1,7 +1,7 @@
 //! Pools: items by number, each once.
 
 ghost use Rattle.std.specs.Prelude.{◌≡◌, ◌<◌, ◌^◌, ◌≤◌, [], IfOk, IfSome, IsTrue, Some, length, slice_get};
-ghost use Rattle.machine_code.specs.private.Packing.{Keeps};
+ghost use Rattle.machine_code.specs.private.Keeping.{Keeps};
 
 use std::alloc::{AllocError, Global};
 use std::cmp::Ordering;

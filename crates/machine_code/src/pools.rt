@@ -2,9 +2,10 @@
 
 ghost use Rattle.std.specs.Prelude.{◌≡◌, ◌<◌, IfOk, length, Some, option_map, slice_get};
 ghost use Rattle.machine_code.specs.Instructions.{instr_view};
-ghost use Rattle.machine_code.specs.private.Lent.{op_view};
-ghost use Rattle.machine_code.specs.private.Packing.{Grows, IsSpelled, Keeps, made, spelled};
-ghost use Rattle.machine_code.specs.private.Beside.{parts};
+ghost use Rattle.machine_code.specs.Lent.{op_view};
+ghost use Rattle.machine_code.specs.Packing.{IsSpelled, made, spelled};
+ghost use Rattle.machine_code.specs.private.Keeping.{Grows, Keeps};
+ghost use Rattle.machine_code.specs.Pools.{parts};
 
 use crate::instr::{Constant, Instr};
 use crate::numbers::{

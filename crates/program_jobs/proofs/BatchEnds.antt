@@ -10,9 +10,9 @@ use Rattle.rbac_judge.specs.Judging.{IsRefusedFor}
 use Rattle.program_jobs.specs.Jobs.{EndsBatch, IsNoBatch, StopsBy}
 use Rattle.program_jobs.specs.private.BatchJob.{EndsLines, IsBegunBy}
 use Rattle.program_jobs.specs.private.Ending.{EndsResult}
-use Rattle.rbac_judge.specs.private.Judged.{bare, report_with}
+use Rattle.rbac_judge.specs.Reports.{bare, report_with}
 use Rattle.program_jobs.specs.private.Stopping.{MemoryOrStop}
-use Rattle.rbac_judge.specs.private.Printed.{IsPrintedFor, with_why}
+use Rattle.rbac_judge.specs.Reports.{IsPrintedFor, with_why}
 use Rattle.rbac_judge.specs.declared.batch.BatchSettings.{BatchSettings}
 use Rattle.program_jobs.specs.declared.batch_job.Start.TheVariants.{Ready}
 use Rattle.program_jobs.specs.declared.job_fault.JobFault.{JobFault}

@@ -1,14 +1,15 @@
 -- What a run comes to, by what was printed of it.
 use Rattle.std.proofs.Common.{◌≡◌, ◌≢◌, ◌⊎◌, ◌↔◌, ℕ, Bool, List, Option, Result, Ok, Err, IfErr, IfOk, IsTrue, true, false, ap, inl, inr, refl, option_map, string_bytes}
 use Rattle.std.specs.declared.io.Error.{Error as IoError}
+use Rattle.cost_bound.specs.declared.budget.Budget.{Budget}
 use Rattle.rbac_judge.proofs.JudgeLemmas.{less_found}
 use Rattle.rbac_judge.specs.Explain.{IsGiven}
 use Rattle.rbac_judge.specs.Judging.{IsDecision}
 use Rattle.program_jobs.specs.private.Ending.{EndsResult}
-use Rattle.rbac_judge.specs.private.Printed.{IsPrintedFor, without_trials, with_why}
+use Rattle.rbac_judge.specs.Reports.{IsPrintedFor, without_trials, with_why}
 use Rattle.program_jobs.specs.Jobs.{ChecksTo, EndsConfig, EndsControl, EndsProxy, EndsReplay, EndsReport, IsCheckedAs, IsJudgedAs, IsUnread, JudgesTo, LacksConfig, LeavesFault, LeavesObject, StopsBy, StopsControl, StopsProxy}
 use Rattle.stream_pumps.specs.Rounds.{Link}
-use Rattle.rbac_judge.specs.private.Judged.{bare, report_with}
+use Rattle.rbac_judge.specs.Reports.{bare, report_with}
 use Rattle.program_jobs.specs.private.Stopping.{MemoryOrStop}
 use Rattle.rbac_judge.specs.declared.explain.Explanation.{Explanation}
 use Rattle.rbac_judge.specs.declared.explain.Explanation.TheVariants as explanations
@@ -87,7 +88,7 @@ module _ (holds : List ℕ → List ℕ → Type 0) (lacks : (List ℕ × IoErro
 
 module _ (holds : List ℕ → List ℕ → Type 0) (lacks : (List ℕ × IoError) → Type 0) (input : Option (List ℕ)) where
   -- running out of memory stops no judgement: it is an outcome
-  pub never_by_memory : (policy : List ℕ) (facts : Option (List ℕ)) (budget : ℕ)
+  pub never_by_memory : (policy : List ℕ) (facts : Option (List ℕ)) (budget : Budget)
       → ¬ (StopsBy holds lacks policy facts budget input faults.Memory)
   never_by_memory policy facts budget stops = elim stops [
     | StopsBy.no_policy unread ↦ unread

@@ -16,6 +16,7 @@ use Rattle.proxy_core.specs.Step.{ProxyValue, new_proxy}
 use Rattle.clap.specs.Words.{Text, kind_of}
 use Rattle.clap.specs.declared.error.kind.ErrorKind.{ErrorKind}
 use Rattle.clap.specs.declared.error.kind.ErrorKind.TheVariants as kinds
+use Rattle.cost_bound.specs.declared.budget.Budget.{Budget}
 use Rattle.rbac_policy.specs.Admission.{Admissible}
 use Rattle.proto_wire.specs.declared.refusal.Refusal.{Refusal}
 use Rattle.rbac_judge.specs.Explain.{IsGiven, unavailable_text}
@@ -82,14 +83,14 @@ module _ (holds : Text → Text → Type 0) (lacks : (Text × IoError) → Type 
       ⊎ ((text : Text) × holds path text × ((c : ConfigValue) → ¬ IsConfigText text c) × (fault ≡ faults.Config))
 
   -- the outcome is that of checking the policy file at this path
-  pub record IsCheckedAs (policy_path : Text) (budget : ℕ) (outcome : Outcome) : Type 0 where
+  pub record IsCheckedAs (policy_path : Text) (budget : Budget) (outcome : Outcome) : Type 0 where
     pub policy : Text
     pub read : holds policy_path policy
     pub found : IsCheckOf policy budget outcome
 
   -- parameters of a judgement: the paths of the policy file and of the facts file, if one is named, the budget, and the
   -- input
-  module _ (policy_path : Text) (facts_path : Option Text) (budget : ℕ) (input : Option Text) where
+  module _ (policy_path : Text) (facts_path : Option Text) (budget : Budget) (input : Option Text) where
     -- the outcome is that of the files and of all bytes of the input, with the name of the policy that matched and the
     -- explanation
     pub record IsJudgedAs (name : Option Text) (explanation : Explanation) (outcome : Outcome)

@@ -12,13 +12,11 @@ use crate::job_fault::JobFault;
 use crate::reading::{conn_of, read_file};
 use crate::reporting::{end_result, report_of};
 use crate::settings::end_replay;
-use attributes::Limits;
 use command_line::BatchWords;
 use proto_wire::Refusal;
 use rbac_judge::batch::{BLOCK, BatchSettings, batch};
 use rbac_judge::judge::Finding;
-use rbac_judge::{Notes, Outcome};
-use rbac_policy::admit;
+use rbac_judge::{Notes, Outcome, PolicyFile, admit_file};
 use std::alloc::Global;
 use std::io::{BufReader, Read, Write};
 
@@ -75,17 +73,18 @@ fn begin<F: Source>(
 {
     let bytes = read_file(alloc, files, words.policy.as_str())?;
     let conn = conn_of(alloc, words.facts, files, notes)?;
-    match admit(alloc, &bytes, &Limits::largest(), words.budget) {
+    let policy = PolicyFile {
+        bytes: &bytes,
+        budget: words.budget,
+    };
+    match admit_file(alloc, policy, notes) {
         Ok(admitted) => Ok(Start::Ready(BatchSettings {
             policy: bytes,
             admitted,
             conn,
             explain: words.explain,
         })),
-        Err(refusal) => {
-            notes.look_at_policy(alloc, &bytes, words.budget, Outcome::Refused(refusal));
-            Ok(Start::Refused(refusal))
-        }
+        Err(refusal) => Ok(Start::Refused(refusal)),
     }
 }
 

@@ -74,8 +74,8 @@ fn stop_by_facts(fault: FactsFault) -> JobFault
 /// The bytes of the file at this path.
 pub fn read_file<F: Source>(alloc: Global, files: &F, path: &str) -> Result<Vec<u8>, JobFault>
     ensures found { IfOk result (λ v. F.holds files.now path.now v.items) }
-    ensures fault { IfErr result (MemoryOrStop
-        (IsUnread (F.holds files.now) (F.lacks files.now) path.now)) }
+    ensures fault { IfErr result (λ e. (e ≡ JobFault.Memory)
+        ⊎ IsUnread (F.holds files.now) (F.lacks files.now) path.now e) }
 {
     match files.read_file(alloc, path) {
         Ok(bytes) => Ok(bytes),

@@ -1,7 +1,7 @@
 //! Prints the result of a job that has a report, and says on standard error why it is no verdict.
 ghost use Rattle.std.specs.Prelude.{◌≡◌, ◌≢◌, Err, IfErr, IfOk, Ok};
 ghost use Rattle.program_jobs.specs.Jobs.{WritesCauseFor, WritesCause};
-ghost use Rattle.rbac_judge.specs.private.Judged.{bare, report_with};
+ghost use Rattle.rbac_judge.specs.Reports.{bare, report_with};
 ghost use Rattle.program_jobs.specs.private.Ending.{EndsResult, EndsWith};
 ghost use Rattle.program_jobs.specs.declared.job_fault.JobFault.{JobFault};
 

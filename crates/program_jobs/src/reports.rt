@@ -3,7 +3,7 @@ ghost use Rattle.std.specs.Prelude.{◌≡◌, ◌↔◌, IfErr, IfOk, IsTrue, o
 ghost use Rattle.rbac_judge.specs.Explain.{IsGiven};
 ghost use Rattle.rbac_judge.specs.Judging.{IsDecision};
 ghost use Rattle.program_jobs.specs.Jobs.{ChecksTo, EndsReport, IsCheckedAs, IsJudgedAs, IsUnread, JudgesTo, StopsBy};
-ghost use Rattle.rbac_judge.specs.private.Judged.{bare};
+ghost use Rattle.rbac_judge.specs.Reports.{bare};
 ghost use Rattle.program_jobs.specs.private.Stopping.{MemoryOrStop};
 
 use crate::files::Source;
@@ -12,8 +12,9 @@ use crate::reading::{conn_of, read_file};
 use crate::recorded::Recorded;
 use crate::reporting::{end_result, report_of};
 use command_line::{CheckWords, JudgeWords};
-use rbac_judge::Notes;
+use cost_bound::Budget;
 use rbac_judge::judge::{Finding, check, judge};
+use rbac_judge::{Notes, PolicyFile};
 use std::alloc::Global;
 use std::io::{Read, Write};
 
@@ -63,7 +64,7 @@ pub fn run_judge<F: Source, R: Read + Drop, W: Write, E: Write>(
 fn check_file<F: Source>(
     alloc: Global,
     policy: &str,
-    budget: u64,
+    budget: Budget,
     files: &F,
     notes: &mut Notes,
 ) -> Result<Finding, JobFault>
@@ -74,9 +75,11 @@ fn check_file<F: Source>(
         (IsUnread (F.holds files.now) (F.lacks files.now) policy.now)) }
 {
     let bytes = read_file(alloc, files, policy)?;
-    let outcome = check(alloc, &bytes, budget);
-    notes.look_at_policy(alloc, &bytes, budget, outcome);
-    Ok(Finding::bare(outcome))
+    let policy = PolicyFile {
+        bytes: &bytes,
+        budget,
+    };
+    Ok(Finding::bare(check(alloc, policy, notes)))
 }
 
 /// Judges the head that the input begins with, by a policy file, on a connection with the facts of a facts file.
@@ -102,9 +105,12 @@ fn judge_files<F: Source, R: Read + Drop>(
         input,
         kept: &mut kept,
     };
-    match judge(alloc, &bytes, words.budget, conn, words.explain, input) {
+    let policy = PolicyFile {
+        bytes: &bytes,
+        budget: words.budget,
+    };
+    match judge(alloc, policy, conn, words.explain, input, notes) {
         Ok(finding) => {
-            notes.look_at_policy(alloc, &bytes, words.budget, finding.outcome);
             notes.look_at_head(alloc, &kept, finding.outcome);
             Ok(finding)
         }

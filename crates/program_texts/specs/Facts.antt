@@ -1,7 +1,7 @@
 -- The facts of a connection as a JSON object: RFC 8259 section 4; the names are those of Envoy, "Attributes".
 use Rattle.std.specs.Prelude.{◌≡◌, ◌≢◌, ◌⊎◌, ℕ, ◌^◌, ◌<◌, List, Bool, Option, Some, None, codes, length, unwrap_or, IsUtf8}
-use Rattle.attributes.specs.Address.{IsIpText}
-use Rattle.attributes.specs.Conn.{Facts}
+use Rattle.attributes.specs.Address.{IsIpText, unmapped}
+use Rattle.attributes.specs.Conn.{Facts, server_name}
 use Rattle.attributes.specs.Limits.{FactsInLimits, largest}
 use Rattle.attributes.specs.declared.address.Ip.{Ip}
 use Rattle.serde_json.specs.Data.{Data, boolean, number, unsigned, string, object, Members, no_members, member}
@@ -35,9 +35,14 @@ IsNumber d n = d ≡ number (unsigned n)
 abbrev pub IsAnswer : Data → Bool → Type 0
 IsAnswer d b = d ≡ boolean b
 
--- the value is a text that spells this address
+-- the value is a text that spells this address, which is in its one form: of IPv4, if it is written as one of IPv6
 abbrev pub IsAddress : Data → Ip → Type 0
-IsAddress d ip = (text : List ℕ) × (d ≡ string text) × IsIpText text ip
+IsAddress d ip =
+    (text : List ℕ) × (d ≡ string text) × ((spelled : Ip) × IsIpText text spelled × (ip ≡ unmapped spelled))
+
+-- the value is the name of this server, in any case
+abbrev pub IsServerName : Data → List ℕ → Type 0
+IsServerName d name = (text : List ℕ) × (d ≡ string text) × (name ≡ server_name text)
 
 -- the fact and a value for it are both absent; or both are present, and the value means the fact
 abbrev pub BothOrNone : {A : Type 0} → (Data → A → Type 0) → Option Data → Option A → Type 0
@@ -59,7 +64,7 @@ fact_row DestinationPort = (codes "destination.port", λ d f. BothOrNone IsPortN
 fact_row ConnectionMtls = (codes "connection.mtls", λ d f. BothOrNone IsAnswer d f.mtls)
 fact_row ConnectionId = (codes "connection.id", λ d f. BothOrNone IsNumber d f.connection_id)
 fact_row ConnectionRequestedServerName =
-    (codes "connection.requested_server_name", λ d f. BothOrNone IsText d f.requested_server_name)
+    (codes "connection.requested_server_name", λ d f. BothOrNone IsServerName d f.requested_server_name)
 fact_row ConnectionTlsVersion = (codes "connection.tls_version", λ d f. BothOrNone IsText d f.tls_version)
 fact_row ConnectionSubjectPeerCertificate =
     (codes "connection.subject_peer_certificate", λ d f. BothOrNone IsText d f.subject_peer_certificate)

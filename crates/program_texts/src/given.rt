@@ -1,16 +1,17 @@
 //! Reads the facts of a JSON value without taking memory: their texts are those of the value.
 ghost use Rattle.std.specs.Prelude.{◌≡◌, ℕ, Bool, true, false, List, Option, IfErr, IfOk, OnOk, option_map};
-ghost use Rattle.attributes.specs.Conn.{conn_view, text_view};
+ghost use Rattle.attributes.specs.Conn.{conn_view, server_name, text_view};
 ghost use Rattle.attributes.specs.declared.address.Ip.{Ip};
 ghost use Rattle.serde_json.specs.Find.{get};
 ghost use Rattle.serde_json.specs.View.{members_view, view};
-ghost use Rattle.program_texts.specs.Facts.{AreFacts, AreNamed, HasFactFault, HasFactNames, IsAddress, IsAnswer, IsFactName, IsNumber, IsPortNumber, IsScheme, IsText, BothOrNone, name_of};
+ghost use Rattle.program_texts.specs.Facts.{AreFacts, AreNamed, HasFactFault, HasFactNames, IsAddress, IsAnswer, IsFactName, IsNumber, IsPortNumber, IsScheme, IsServerName, IsText, BothOrNone, name_of};
 ghost use Rattle.program_texts.specs.private.Given.{HasUnknown, given_view};
+ghost use Rattle.program_texts.specs.declared.fact.Fact.TheVariants.{ConnectionRequestedServerName};
 ghost use Rattle.program_texts.specs.declared.fact_fault.FactFault.TheVariants.{NotOfKind};
 
 use crate::fact::Fact;
 use crate::fact_fault::FactFault;
-use attributes::{Conn, Ip, parse_ip};
+use attributes::{Conn, Ip, parse_ip, server_name};
 use serde_json::{Map, Value};
 use std::alloc::{AllocError, Global};
 use std::sync::ArcStr;
@@ -28,7 +29,7 @@ pub(crate) fn given_facts<'a>(value: &'a Value) -> Result<Conn<&'a str>, FactFau
         destination_port: port_at(value, Fact::DestinationPort)?,
         mtls: answer_at(value, Fact::ConnectionMtls)?,
         connection_id: number_at(value, Fact::ConnectionId)?,
-        requested_server_name: text_at(value, Fact::ConnectionRequestedServerName)?,
+        requested_server_name: name_at(value)?,
         tls_version: text_at(value, Fact::ConnectionTlsVersion)?,
         subject_peer_certificate: text_at(value, Fact::ConnectionSubjectPeerCertificate)?,
         dns_san_peer_certificate: text_at(value, Fact::ConnectionDnsSanPeerCertificate)?,
@@ -51,7 +52,7 @@ pub(crate) fn owned(alloc: Global, facts: &Conn<&str>) -> Result<Conn, AllocErro
         destination_port: facts.destination_port,
         mtls: facts.mtls,
         connection_id: facts.connection_id,
-        requested_server_name: owned_text(alloc, facts.requested_server_name)?,
+        requested_server_name: owned_name(alloc, facts.requested_server_name)?,
         tls_version: owned_text(alloc, facts.tls_version)?,
         subject_peer_certificate: owned_text(alloc, facts.subject_peer_certificate)?,
         dns_san_peer_certificate: owned_text(alloc, facts.dns_san_peer_certificate)?,
@@ -68,6 +69,17 @@ fn owned_text(alloc: Global, text: Option<&str>) -> Result<Option<ArcStr>, Alloc
 {
     match text {
         Some(text) => Ok(Some(ArcStr::from_str(alloc, text)?)),
+        None => Ok(None),
+    }
+}
+
+/// The name of a server, in its one form.
+fn owned_name(alloc: Global, text: Option<&str>) -> Result<Option<ArcStr>, AllocError>
+    ensures { IfOk result (λ copy.
+        text_view copy ≡ option_map server_name (option_map (λ t. t.now) text.entry)) }
+{
+    match text {
+        Some(text) => Ok(Some(server_name(alloc, text)?)),
         None => Ok(None),
     }
 }
@@ -115,6 +127,18 @@ fn text_at<'a>(object: &'a Value, fact: Fact) -> Result<Option<&'a str>, FactFau
         Some(text) => Ok(Some(text)),
         None => Err(FactFault::NotOfKind(fact)),
     }
+}
+
+/// The name of the server, as it is written.
+fn name_at<'a>(object: &'a Value) -> Result<Option<&'a str>, FactFault<'a>>
+    ensures found { IfOk result
+        (λ text. BothOrNone IsServerName (get (name_of ConnectionRequestedServerName) (view object.now))
+        (option_map server_name (option_map (λ t. t.now) text))) }
+    ensures fault { IfErr result (λ e. (e ≡ NotOfKind ConnectionRequestedServerName)
+        × ((name : Option (List ℕ))
+        → ¬ BothOrNone IsServerName (get (name_of ConnectionRequestedServerName) (view object.now)) name)) }
+{
+    text_at(object, Fact::ConnectionRequestedServerName)
 }
 
 fn number_at<'a>(object: &'a Value, fact: Fact) -> Result<Option<u64>, FactFault<'a>>
@@ -167,7 +191,7 @@ fn address_at<'a>(object: &'a Value, fact: Fact) -> Result<Option<Ip>, FactFault
         return Ok(None);
     };
     match parse_ip(text) {
-        Some(ip) => Ok(Some(ip)),
+        Some(ip) => Ok(Some(ip.unmapped())),
         None => Err(FactFault::NotOfKind(fact)),
     }
 }

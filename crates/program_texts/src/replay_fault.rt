@@ -1,5 +1,7 @@
 //! Why a replay or a batch ends before its input does.
-ghost use Rattle.program_texts.specs.private.LineReading.{TurnFault};
+ghost use Rattle.std.specs.Prelude.{◌≡◌, ◌≢◌};
+ghost use Rattle.std.specs.IoError.{error_kind};
+ghost use Rattle.program_texts.specs.InputLines.{IsReadingFault};
 
 use std::alloc::AllocError;
 use std::io::{self, ErrorKind};
@@ -28,9 +30,11 @@ impl From<AllocError> for ReplayFault {
     }
 }
 
-/// The fault of a replay or a batch whose input fails for this cause.
+/// The fault of a replay or a batch whose input fails for this cause: `Memory` exactly if memory ran out.
 pub fn input_fault(cause: io::Error) -> ReplayFault
-    ensures { TurnFault result }
+    ensures reading { IsReadingFault result }
+    ensures memory { error_kind cause ≡ ErrorKind.OutOfMemory → result ≡ ReplayFault.Memory }
+    ensures input { error_kind cause ≢ ErrorKind.OutOfMemory → result ≡ ReplayFault.Input cause }
 {
     if cause.kind() == ErrorKind::OutOfMemory {
         return ReplayFault::Memory;

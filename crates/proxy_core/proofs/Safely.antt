@@ -14,6 +14,7 @@ use Rattle.cel_types.specs.Typing.{maps_of}
 use Rattle.cel_types.proofs.WellTypedElaborations.{elaborated_typed}
 use Rattle.cel_compile.proofs.Unstuck.{code_never_stuck}
 use Rattle.cel_compile.proofs.Meaning.{code_means}
+use Rattle.cost_bound.specs.declared.budget.Budget.{Budget}
 use Rattle.rbac_policy.specs.Condition.{IsProgramOf, Program}
 use Rattle.rbac_policy.specs.Costs.{FilterCosts}
 use Rattle.rbac_policy.specs.Enforced.{EnforcesPolicy}
@@ -57,11 +58,11 @@ runs_well limits condition program r good of valid inside =
     }
 
 -- a condition of rules that cost something has a program
-program_there : (limits : LimitsValue) (rules : Rules) (cost : ℕ) → FilterCosts limits rules cost → (name : List ℕ)
+program_there : (limits : LimitsValue) (rules : Rules) (needs : Budget) → FilterCosts limits rules needs → (name : List ℕ)
     (condition : CelChecked) → IsSomeAnd (get rules.policies name) (λ policy. policy.condition ≡ Some condition)
     → (program : Program) × IsProgramOf limits condition program
-program_there limits rules cost costs name condition has =
-    let it = enforced_there limits rules cost costs in
+program_there limits rules needs costs name condition has =
+    let it = enforced_there limits rules needs costs in
     of_policy (get rules.policies name) (get it.0.policies name) (it.1.policies name) has
   where
     of_condition : (x : Option CelChecked) (y : Option Program)
@@ -83,7 +84,7 @@ program_there limits rules cost costs name condition has =
 rules_well : (limits : LimitsValue) (f : FilterValue) (bytes : List ℕ) (rules : Rules) → AreRules limits f bytes rules
     → RunWell limits (Some rules)
 rules_well limits f bytes rules is name condition has =
-    let it = program_there limits rules is.cost is.costs name condition has in
+    let it = program_there limits rules is.needs is.costs name condition has in
     let good = good_of condition (get rules.policies name) _ (is.message.rules.policies.2 name) has in record {
       program = it.0;
       its = it.1;

@@ -1,6 +1,7 @@
 -- A configuration's value has one reading, and one that is at fault is none.
 use Rattle.std.proofs.Common.{◌≡◌, inl, inr, ℕ, zero, suc, ◌+◌, ◌<◌, ◌++◌, List, [], ◌∷◌, Option, Some, None, Result, Ok, Err, OnErr, refl, sym, ◌∙◌, ap, length, map, take, get_or, arith, codes}
 use Rattle.std.specs.List.{AllByRecursion, AllZip}
+use Rattle.cost_bound.proofs.BudgetLaws.{same_budget}
 use Rattle.ads.proofs.Lists.{zip_more}
 use Rattle.ads.specs.Config.{ConfigValue, FilterIsAtFault, FilterValue, IsAtFault, IsFilter, IsSound}
 use Rattle.ads.specs.declared.config.ConfigFault.{ConfigFault}
@@ -61,7 +62,9 @@ number_one absent d m n a b =
 filter_one : (d : Data) (f g : FilterValue) → IsFilterObject d f → IsFilterObject d g → f ≡ g
 filter_one d f g a b =
     let name : f.name ≡ g.name = (let first = a.name in let second = b.name in cc) in
-    let budget : f.budget ≡ g.budget = number_one _ _ _ _ a.budget b.budget in
+    let steps : f.budget.steps ≡ g.budget.steps = number_one _ _ _ _ a.budget b.budget in
+    let visits : f.budget.visits ≡ g.budget.visits = number_one _ _ _ _ a.visits b.visits in
+    let budget : f.budget ≡ g.budget = same_budget f.budget g.budget steps visits in
     rw (name, budget) refl
 
 -- values are one list of filters

@@ -12,7 +12,7 @@ use Rattle.program_texts.proofs.LineLemmas.{end_of, read_at_end, read_more}
 use Rattle.program_texts.specs.declared.replay_fault.ReplayFault.{ReplayFault}
 use Rattle.program_texts.specs.declared.replay_fault.ReplayFault.TheVariants as faults
 use Rattle.proxy_replay.specs.private.Replaying.{IsSomeLine, TurnStops}
-use Rattle.program_texts.specs.private.LineReading.{TurnFault}
+use Rattle.program_texts.specs.InputLines.{IsReadingFault}
 
 -- what is printed of more calls
 printed_more : (calls more : List EventCall) → printed_of (calls ++ more) ≡ printed_of calls ++ printed_of more
@@ -104,7 +104,7 @@ stops_of config only input out faults.Memory number line lines after input_then 
 
 -- what stops the reading of a line stops the replay
 pub turn_stops : (config : ConfigValue) (only : Option ℕ) (input out : Option (List ℕ)) (e : ReplayFault)
-    (lines : List (List ℕ)) (after : ProxyValue) (input_then input_new out_then : Option (List ℕ)) → TurnFault e
+    (lines : List (List ℕ)) (after : ProxyValue) (input_then input_new out_then : Option (List ℕ)) → IsReadingFault e
     → StopsBy config only input out e lines after input_then input_new out_then out_then
 turn_stops config only input out (faults.Line n cause) lines after input_then input_new out_then fault = absurd fault
 turn_stops config only input out (faults.Input cause) lines after input_then input_new out_then fault = (fault, refl)

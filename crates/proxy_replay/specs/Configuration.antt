@@ -16,22 +16,25 @@ abbrev pub fault_text : ConfigTextFault → List ℕ
 fault_text Bad = codes "bad config"
 fault_text Memory = codes "memory"
 
--- the names of the members that a configuration, a filter and limits may have
+-- the names of the members that a configuration may have
 abbrev pub config_names : List (List ℕ)
 config_names = codes "node" ∷ codes "cluster" ∷ codes "filters" ∷ codes "limits" ∷ []
 
+-- the names of the members that a filter may have
 abbrev pub filter_names : List (List ℕ)
-filter_names = codes "name" ∷ codes "budget" ∷ []
+filter_names = codes "name" ∷ codes "budget" ∷ codes "visits" ∷ []
 
+-- the names of the members that limits may have
 abbrev pub limit_names : List (List ℕ)
 limit_names =
     codes "fields" ∷ codes "name" ∷ codes "value" ∷ codes "method" ∷ codes "target" ∷ codes "text" ∷ []
 
--- the object means this filter; without a budget, the budget is 1,000,000
+-- the object means this filter; without a budget, it has 1,000,000 steps, and without visits 4,194,304
 pub record IsFilterObject (d : Data) (f : FilterValue) : Type 0 where
   pub names : HasOnly filter_names d
   pub name : get (codes "name") d ≡ Some (string f.name)
-  pub budget : IsNumberOr 1000000 (get (codes "budget") d) f.budget
+  pub budget : IsNumberOr 1000000 (get (codes "budget") d) f.budget.steps
+  pub visits : IsNumberOr 4194304 (get (codes "visits") d) f.budget.visits
 
 -- the object declares these limits; a limit that it does not name has the greatest value
 pub record DeclaresLimits (d : Data) (l : LimitsValue) : Type 0 where

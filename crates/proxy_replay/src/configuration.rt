@@ -13,6 +13,7 @@ ghost use Rattle.proxy_replay.specs.declared.configuration.ConfigTextFault.TheVa
 
 use ads::{Config, ConfigFault, Filter};
 use attributes::{Limit, Limits};
+use cost_bound::{Budget, USUAL_STEPS, USUAL_VISITS};
 use program_texts::{InvalidValue, items_at, number_or, require_names, str_at};
 use serde_json::Value;
 use std::alloc::{AllocError, AllocFailed, Global};
@@ -23,13 +24,10 @@ use std::fmt;
 pub(crate) const CONFIG_NAMES: [&str; 4] = ["node", "cluster", "filters", "limits"];
 
 /// The names of the members that a filter may have.
-pub(crate) const FILTER_NAMES: [&str; 2] = ["name", "budget"];
+pub(crate) const FILTER_NAMES: [&str; 3] = ["name", "budget", "visits"];
 
 /// The names of the members that limits may have.
 pub(crate) const LIMIT_NAMES: [&str; 6] = ["fields", "name", "value", "method", "target", "text"];
-
-/// The budget of a filter for which none is given.
-pub(crate) const DEFAULT_BUDGET: u64 = 1_000_000;
 
 /// Why a configuration cannot be read.
 #[derive(Clone, Copy, Debug)]
@@ -107,9 +105,9 @@ impl From<serde_json::Error> for ConfigTextFault {
 
 /// The configuration of a JSON text (RFC 8259): an object with `node` and `cluster`, both strings of at most 256 bytes,
 /// and `filters`. These are an array of 1 to 8 objects, each with a `name` of 1 to 256 bytes, all different. A filter
-/// may have a `budget` of 1 to 100,000,000. The configuration may have `limits`, an object with any of `fields`,
-/// `name`, `value`, `method`, `target` and `text`. None of them may be 0 or above the greatest. Of two members with the
-/// same name the last counts. `Bad` if the text is no configuration, `Memory` if memory ran out.
+/// may have a `budget` of 1 to 100,000,000 steps, and `visits` of 1 to 2^63 - 1. The configuration may have `limits`, an
+/// object with any of `fields`, `name`, `value`, `method`, `target` and `text`. None of them may be 0 or above the
+/// greatest. Of two members with the same name the last counts. `Bad` if the text is no configuration, `Memory` if memory ran out.
 pub fn read_config(alloc: Global, text: &[u8]) -> Result<Config, ConfigTextFault>
     ensures found { IfOk result (IsConfigText text.now) }
     ensures fault { IfErr result (λ e. e ≡ Bad → (c : ConfigValue) → ¬ IsConfigText text.now c) }
@@ -187,8 +185,10 @@ fn filter_of(alloc: Global, value: &Value) -> Result<Filter, ConfigTextFault>
 {
     require_names(value, &FILTER_NAMES)?;
     let name = str_at(value, "name")?;
-    let budget = number_or(value, "budget", DEFAULT_BUDGET)?;
+    let steps = number_or(value, "budget", USUAL_STEPS)?;
+    let visits = number_or(value, "visits", USUAL_VISITS)?;
     let name = String::from_str(alloc, name)?;
+    let budget = Budget { steps, visits };
     Ok(Filter { name, budget })
 }
 

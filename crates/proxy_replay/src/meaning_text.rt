@@ -1,7 +1,8 @@
 //! The texts on a configuration: its meaning, or its fault. No contract describes these texts.
-use crate::configuration::{CONFIG_NAMES, DEFAULT_BUDGET, FILTER_NAMES, LIMIT_NAMES, limit_at};
+use crate::configuration::{CONFIG_NAMES, FILTER_NAMES, LIMIT_NAMES, limit_at};
 use ads::Config;
 use attributes::{Limit, Limits};
+use cost_bound::{MOST_STEPS, MOST_VISITS};
 use program_texts::{InvalidValue, is_among, items_at, number_or, str_at};
 use serde_json::Value;
 use std::alloc::{AllocError, Global};
@@ -12,7 +13,8 @@ pub fn config_text(alloc: Global, config: &Config) -> Result<String, AllocError>
     let mut text = format!(in alloc; "node {node:?}\ncluster {cluster:?}\n")?;
     for (name, budget) in config.filters() {
         let name = name.as_str();
-        let line = format!(in alloc; "filter {name:?} budget {budget}\n")?;
+        let (steps, visits) = (budget.steps, budget.visits);
+        let line = format!(in alloc; "filter {name:?} budget {steps} visits {visits}\n")?;
         text.push_str(line.as_str())?;
     }
     let limits = limits_text(alloc, config.limits())?;
@@ -139,11 +141,18 @@ fn cause_of_filter(alloc: Global, item: &Value) -> Result<Option<String>, AllocE
             return Ok(Some(String::from_str(alloc, "its name is not a text of 1 to 256 bytes")?));
         }
     }
-    match number_or(item, "budget", DEFAULT_BUDGET) {
-        Ok(budget) if budget > 0 && budget <= 100_000_000 => Ok(None),
-        _ => Ok(Some(String::from_str(
-            alloc,
-            "its budget is not a whole number from 1 to 100000000",
-        )?)),
+    if !is_number_to(item, "budget", MOST_STEPS) {
+        let cause = "its budget is not a whole number from 1 to 100000000";
+        return Ok(Some(String::from_str(alloc, cause)?));
     }
+    if !is_number_to(item, "visits", MOST_VISITS) {
+        let cause = "its visits are not a whole number from 1 to 9223372036854775807";
+        return Ok(Some(String::from_str(alloc, cause)?));
+    }
+    Ok(None)
+}
+
+/// Whether a member is absent, or a number from 1 to the greatest.
+fn is_number_to(item: &Value, name: &str, greatest: u64) -> bool {
+    matches!(number_or(item, name, greatest), Ok(number) if number > 0 && number <= greatest)
 }

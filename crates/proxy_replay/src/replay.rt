@@ -7,7 +7,7 @@ ghost use Rattle.proxy_core.specs.Proxies.{proxy_view};
 ghost use Rattle.proxy_replay.specs.Lines.{line_view};
 ghost use Rattle.proxy_replay.specs.Replays.{IsLineText, IsReplayed, IsStopped};
 ghost use Rattle.proxy_replay.specs.private.Replaying.{Answers, IsSomeLine, PrintsAnswer, TurnStops};
-ghost use Rattle.program_texts.specs.private.LineReading.{TurnFault};
+ghost use Rattle.program_texts.specs.InputLines.{IsReadingFault};
 ghost use Rattle.program_texts.specs.declared.line_fault.LineFault.TheVariants.{BadLine};
 ghost use Rattle.program_texts.specs.declared.replay_fault.ReplayFault.TheVariants.{Memory};
 
@@ -56,7 +56,7 @@ pub fn replay<R: BufRead, W: Write>(
 fn read_line<R: BufRead>(alloc: Global, input: &mut R) -> Result<Option<Vec<u8>>, ReplayFault>
     ensures found { IfOk result (λ found.
         IsSomeLine (option_map (λ v. v.items) found) (R.remaining input.old) (R.remaining input.new)) }
-    ensures fault { IfErr result (λ e. TurnFault e) }
+    ensures fault { IfErr result (λ e. IsReadingFault e) }
 {
     let mut line = Vec::new(alloc);
     match input.read_until(b'\n', &mut line) {

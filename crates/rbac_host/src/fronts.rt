@@ -2,7 +2,7 @@
 
 use crate::observed::ObservedWorker;
 use crate::rule::{MappingRule, unjudged_head};
-use attributes::{Conn, Limits, Request};
+use attributes::{Conn, Limits, Protocol, Request};
 use head_map::{Parts, head_of};
 use host_logs::Connection;
 use http_front::{Ask, Front, HeadFault, Reply};
@@ -143,7 +143,8 @@ impl FrontConnection {
         };
         match rule.client_of(alloc, parts)? {
             Ok(client) => {
-                let head = head_of(alloc, &client, request.is_http11())?;
+                let is_http11 = request.protocol() == Protocol::Http11;
+                let head = head_of(alloc, &client, is_http11)?;
                 observed.judge(self.place, &client.conn, head.as_bytes())
             }
             Err(unjudged) => Ok(observed.refuse(&self.own, &unjudged)),

@@ -1,4 +1,8 @@
 //! The requests of the clients of a front proxy: judged, counted, logged and recorded.
+ghost use Rattle.std.specs.Prelude.{◌≡◌};
+ghost use Rattle.http_front.specs.Answer.{reply_view};
+ghost use Rattle.rbac_serve.specs.Workers.{worker_view};
+ghost use Rattle.rbac_host.specs.Rules.{reply_without};
 
 use crate::observed::ObservedWorker;
 use attributes::Conn;
@@ -73,7 +77,9 @@ impl<R: Clock, F: LogFiles + Drop> ObservedWorker<'_, R, F> {
     }
 
     // The reply of this case, if nothing was judged. It takes no memory.
-    fn reply_of(&self, case: Case) -> Reply {
+    fn reply_of(&self, case: Case) -> Reply
+        ensures { reply_view result ≡ reply_without case (worker_view self.now.worker) }
+    {
         Reply {
             case,
             matches: Vec::new(self.alloc),
@@ -84,7 +90,10 @@ impl<R: Clock, F: LogFiles + Drop> ObservedWorker<'_, R, F> {
     }
 
     /// Counts and logs a request on a connection that is not judged. Returns its answer.
-    pub(crate) fn refuse(&mut self, connection: &Connection, unjudged: &Unjudged) -> Reply {
+    pub(crate) fn refuse(&mut self, connection: &Connection, unjudged: &Unjudged) -> Reply
+        ensures reply { reply_view result ≡ reply_without unjudged.now.case (worker_view self.old.worker) }
+        ensures worker { self.new.worker ≡ self.old.worker }
+    {
         let reply = self.reply_of(unjudged.case);
         if let Case::Fault(fault) = unjudged.case {
             self.admin

@@ -107,7 +107,7 @@ fn filters_of(alloc: Global, config: &Config) -> Result<Vec<FilterStatus>, Alloc
     for (name, budget) in config.filters() {
         filters.push(FilterStatus {
             name: String::from_str(alloc, name.as_str())?,
-            budget: *budget,
+            budget: budget.steps,
             policies: None,
         })?;
     }

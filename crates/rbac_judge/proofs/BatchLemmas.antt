@@ -13,6 +13,7 @@ use Rattle.serde_json.specs.Data.{Data, Items, Members, array, boolean, depth, i
 use Rattle.serde_json.specs.Find.{get, get_member}
 use Rattle.serde_json.specs.Written.{compact_text}
 use Rattle.serde_json.specs.Read.{read}
+use Rattle.cost_bound.specs.declared.budget.Budget.{Budget}
 use Rattle.rbac_policy.specs.Condition.{Program}
 use Rattle.rbac_policy.specs.Filter.{Filter}
 use Rattle.program_texts.proofs.LineLemmas.{end_of, read_at_end, read_more}
@@ -20,13 +21,14 @@ use Rattle.rbac_judge.specs.Batches.{Answer, Answered, AreAnswers, HasNoHead, Is
 use Rattle.rbac_judge.specs.Outcome.{printed_of}
 use Rattle.program_texts.specs.Output.{BreaksOff}
 use Rattle.program_texts.specs.InputLines.{AreLines, ReadsLine}
-use Rattle.program_texts.specs.private.LineReading.{TurnFault}
+use Rattle.program_texts.specs.InputLines.{IsReadingFault}
 use Rattle.program_texts.specs.declared.replay_fault.ReplayFault.{ReplayFault}
 use Rattle.program_texts.specs.declared.replay_fault.ReplayFault.TheVariants as faults
-use Rattle.rbac_judge.specs.private.Batching.{BreaksOutput, IsAnsweredBy, IsIdText, IsLineOf, IsPlainAnswer, LacksHead, OfPolicies}
+use Rattle.rbac_judge.specs.private.Batching.{BreaksOutput, IsAnsweredBy, IsIdText, IsLineOf, IsPlainAnswer, LacksHead}
+use Rattle.rbac_judge.specs.Batches.{OfPolicies}
 use Rattle.rbac_judge.specs.declared.head_lines.HeadLine.{HeadLine}
 use Rattle.rbac_judge.specs.declared.explain.Explanation.TheVariants as explanations
-use Rattle.rbac_judge.specs.private.Printed.{without_memory}
+use Rattle.rbac_judge.specs.Reports.{without_memory}
 use Rattle.rbac_judge.specs.declared.outcome.Outcome.TheVariants as outcomes
 use Rattle.rbac_judge.specs.declared.report.Report.{Report}
 use Rattle.rbac_judge.specs.Json.{no_cause}
@@ -39,7 +41,7 @@ text_more (first ∷ answers) answer =
     ap (λ rest. answer_text first ++ rest) (text_more answers answer)
     ∙ sym (append_assoc (answer_text first) (answers_text answers) (answer_text answer))
 
-module _ (policy : List ℕ) (budget : ℕ) (absent : Facts) (explain : Bool) where
+module _ (policy : List ℕ) (budget : Budget) (absent : Facts) (explain : Bool) where
   -- one answer more
   answers_more : (n m : ℕ) (lines : List (List ℕ)) (answers : List Answer) (line : List ℕ) (answer : Answer)
       → AreAnswers policy budget absent explain n lines answers → m ≡ n + length lines
@@ -108,7 +110,7 @@ module _ (old now new : Option (List ℕ)) (done rest : List ℕ) (took : Append
   leaves_more faults.Memory all = Appends-trans old now new done rest took all
 
 -- a fault ends the batch after some answers, of which `done` were written
-pub cut_short : (policy : List ℕ) (budget : ℕ) (absent : Facts) (explain : Bool) (input out between now new : Option (List ℕ))
+pub cut_short : (policy : List ℕ) (budget : Budget) (absent : Facts) (explain : Bool) (input out between now new : Option (List ℕ))
     (lines : List (List ℕ)) (answers : List Answer) (done rest : List ℕ) (e : ReplayFault)
     → Answered policy budget absent explain input lines answers between → answers_text answers ≡ done ++ rest
     → Appends out now done → LeavesAnswers now new rest e
@@ -157,7 +159,7 @@ breaks_second out now new text rest (faults.Output cause) took broken = breaks_m
 breaks_second out now new text rest faults.Memory took broken = absurd broken
 
 -- where all was written, a fault of the input left it
-pub all_left : (out out_new : Option (List ℕ)) (text : List ℕ) (e : ReplayFault) → TurnFault e
+pub all_left : (out out_new : Option (List ℕ)) (text : List ℕ) (e : ReplayFault) → IsReadingFault e
     → Appends out out_new text → LeavesAnswers out out_new text e
 all_left out out_new text (faults.Line n cause) turn all = absurd turn
 all_left out out_new text (faults.Input cause) turn all = (turn, all)

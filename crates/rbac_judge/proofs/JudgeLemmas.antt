@@ -9,13 +9,15 @@ use Rattle.cel_tree.specs.Checked.{CelChecked}
 use Rattle.http_front.specs.Asks.{HeadAsks, IfJudge}
 use Rattle.http_front.specs.declared.read.HeadAsk.{HeadAsk}
 use Rattle.http_front.specs.declared.read.HeadAsk.TheVariants.{Judge, Fault}
+use Rattle.cost_bound.specs.declared.budget.Budget.{Budget}
 use Rattle.rbac_policy.specs.Admission.{Admits}
 use Rattle.rbac_policy.specs.Condition.{Program}
 use Rattle.rbac_policy.specs.Filter.{Filter}
 use Rattle.rbac_judge.specs.Explain.{Explains, IsGiven}
 use Rattle.rbac_judge.specs.Judging.{InputFault, IsAllOf, IsDecided, IsDecision, IsOutcomeOf}
-use Rattle.rbac_judge.specs.private.Printed.{without_trials}
-use Rattle.rbac_judge.specs.private.Judged.{IsAnswerTo, IsExplanationOf, IsNameOf, IsOutcomeOfAsk, IsOutcomeUnder, bare}
+use Rattle.rbac_judge.specs.Reports.{without_trials}
+use Rattle.rbac_judge.specs.private.Judged.{IsAnswerTo, IsExplanationOf, IsNameOf, IsOutcomeOfAsk, IsOutcomeUnder}
+use Rattle.rbac_judge.specs.Reports.{bare}
 use Rattle.rbac_judge.specs.private.Reading.{IsFound}
 use Rattle.rbac_judge.specs.declared.explain.Explanation.{Explanation}
 use Rattle.rbac_judge.specs.declared.explain.Explanation.TheVariants as explanations
@@ -35,7 +37,7 @@ less_explains r filter explanations.Absent explains = tt
 less_explains r filter (explanations.Trials trials) explains = refl
 less_explains r filter (explanations.Unavailable cause) explains = explains
 
-module _ (policy : List ℕ) (budget : ℕ) (facts : Facts) (bytes : List ℕ) where
+module _ (policy : List ℕ) (budget : Budget) (facts : Facts) (bytes : List ℕ) where
   -- a verdict with another explanation that its request has
   explained_as : (name : Option (List ℕ)) (explanation other : Explanation) (allowed : Bool)
       (matched : Option ℕ)
@@ -130,7 +132,7 @@ under_found enforced facts bytes None outcome explanation is answers explains po
 
 module _ {E : Type 0} where
   -- what is found under the admitted filter, or out of memory, is found under the policy
-  pub found_under : (policy : List ℕ) (budget : ℕ) (facts : Facts) (known : Option (List ℕ))
+  pub found_under : (policy : List ℕ) (budget : Budget) (facts : Facts) (known : Option (List ℕ))
       (enforced : Filter Program) (filter : Filter CelChecked) → Admits policy largest budget filter enforced
       → (answer ended : Result Finding E)
       → IfOk answer (λ f. (bytes : List ℕ) × IsAllOf known bytes × IsOutcomeUnder enforced facts bytes f.explanation f.outcome)

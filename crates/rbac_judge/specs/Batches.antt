@@ -1,5 +1,6 @@
 -- A batch: request heads as lines with JSON objects (RFC 8259 section 4), and the answer to each. The names are this
 -- project's own.
+use Rattle.cost_bound.specs.declared.budget.Budget.{Budget}
 use Rattle.std.specs.Prelude.{◌≡◌, ◌⊎◌, ◌↔◌, ◌≢◌, ◌<◌, ◌++◌, ◌+◌, ⊤, ℕ, Bool, true, List, [], ◌∷◌, IfSome, IsTrue, IsUtf8, Option, Some, None, codes, drop, length, option_map, string_bytes}
 use Rattle.std.specs.Io.KnownBytes.{Appends}
 use Rattle.std.specs.IoError.{error_kind}
@@ -7,6 +8,10 @@ use Rattle.std.specs.List.{flat_map}
 use Rattle.std.specs.declared.io.ErrorKind.{ErrorKind as IoKind}
 use Rattle.attributes.specs.Conn.{Facts}
 use Rattle.attributes.specs.Limits.{FactsInLimits, largest}
+use Rattle.cel_tree.specs.Checked.{CelChecked}
+use Rattle.rbac_policy.specs.Admission.{Admits}
+use Rattle.rbac_policy.specs.Condition.{Program}
+use Rattle.rbac_policy.specs.Filter.{Filter}
 use Rattle.serde_json.specs.Data.{Data, number, unsigned, string, object, member, no_members}
 use Rattle.serde_json.specs.Find.{get}
 use Rattle.serde_json.specs.Read.{read}
@@ -93,7 +98,7 @@ LeavesAnswers out out_new text (faults.Output cause) = BreaksOff out out_new tex
 LeavesAnswers out out_new text faults.Memory = Appends out out_new text
 
 -- parameters: a policy, its budget, the facts of a line that has none, and whether verdicts are explained
-module _ (policy : List ℕ) (budget : ℕ) (absent : Facts) (explain : Bool) where
+module _ (policy : List ℕ) (budget : Budget) (absent : Facts) (explain : Bool) where
   -- the line has a head with facts within the limits, and the report is that of the policy, the head and its facts
   pub record IsReportOn (line : List ℕ) (report : Report) : Type 0 where
     pub head : List ℕ
@@ -142,3 +147,8 @@ module _ (policy : List ℕ) (budget : ℕ) (absent : Facts) (explain : Bool) wh
       pub between : Option (List ℕ)
       pub answered : Answered input lines answers between
       pub printed : LeavesAnswers out out_new (answers_text answers) fault
+
+-- what holds of each policy that is admitted as this filter
+abbrev pub OfPolicies : Filter Program → (List ℕ → Budget → Type 0) → Type 0
+OfPolicies enforced P =
+    (policy : List ℕ) (budget : Budget) (filter : Filter CelChecked) → Admits policy largest budget filter enforced → P policy budget

@@ -31,6 +31,7 @@ pub record WhyValue : Type 0 where
   pub cause : Option (List ℕ)
   pub place : Option (List ℕ)
 
+-- why, as the definitions have it
 abbrev pub why_view : Why → WhyValue
 why_view why =
     record { cause = option_map string_bytes why.cause; place = option_map string_bytes why.place }

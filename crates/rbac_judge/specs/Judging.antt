@@ -10,6 +10,7 @@ use Rattle.http_front.specs.declared.fault.HeadFault.TheVariants.{Unfinished}
 use Rattle.http_front.specs.Asks.{HasFault, HeadAsks, IsUnfinished}
 use Rattle.proto_wire.specs.Refusal.{MemoryOr}
 use Rattle.proto_wire.specs.declared.refusal.Refusal.{Refusal}
+use Rattle.cost_bound.specs.declared.budget.Budget.{Budget}
 use Rattle.rbac_policy.specs.Admission.{Admissible, Admits, Fault}
 use Rattle.rbac_policy.specs.Condition.{Program, is_met}
 use Rattle.rbac_policy.specs.Enforced.{total_bound}
@@ -30,7 +31,7 @@ IsAllOf input bytes = IfSome input (λ all. bytes ≡ all)
 
 -- the policy is admitted as a filter. The bytes begin with a head whose request, on a connection with these facts, has
 -- this verdict. The name is that of the policy that matched, and the explanation is that of the request
-pub record IsDecided (policy : List ℕ) (budget : ℕ) (facts : Facts) (bytes : List ℕ)
+pub record IsDecided (policy : List ℕ) (budget : Budget) (facts : Facts) (bytes : List ℕ)
     (name : Option (List ℕ)) (explanation : Explanation) (allowed : Bool) (matched : Option ℕ)
     : Type 0 where
   pub filter : Filter CelChecked
@@ -48,11 +49,11 @@ pub data InputFault (facts : Facts) (bytes : List ℕ) (fault : HeadFault) : Typ
   unfinished : IsUnfinished bytes → fault ≡ Unfinished → InputFault facts bytes fault
 
 -- the policy is refused for this reason: it has the fault, or memory ran out
-abbrev pub IsRefusedFor : List ℕ → ℕ → Refusal → Type 0
+abbrev pub IsRefusedFor : List ℕ → Budget → Refusal → Type 0
 IsRefusedFor policy budget = MemoryOr (λ e. Fault e policy largest budget)
 
 -- the outcome is that of checking the policy alone
-abbrev pub IsCheckOf : List ℕ → ℕ → Outcome → Type 0
+abbrev pub IsCheckOf : List ℕ → Budget → Outcome → Type 0
 IsCheckOf policy budget (outcomes.Admitted policies bound) =
     (filter : Filter CelChecked) × (enforced : Filter Program)
     × Admits policy largest budget filter enforced
@@ -63,7 +64,7 @@ IsCheckOf policy budget _ = ⊥
 
 -- the outcome is that of the policy, the facts and the bytes, with the name of the policy that matched and the
 -- explanation. No condition exceeds its steps, since the request is within the limits
-abbrev pub IsOutcomeOf : List ℕ → ℕ → Facts → List ℕ → Option (List ℕ) → Explanation → Outcome
+abbrev pub IsOutcomeOf : List ℕ → Budget → Facts → List ℕ → Option (List ℕ) → Explanation → Outcome
     → Type 0
 IsOutcomeOf policy budget facts bytes name explanation (outcomes.Allowed matched) =
     IsDecided policy budget facts bytes name explanation true matched

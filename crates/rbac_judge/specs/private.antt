@@ -1,5 +1,4 @@
 -- Definitions for private functions and for other crates. No public contract of this crate uses them.
 pub mod Reading
 pub mod Judged
-pub mod Printed
 pub mod Batching

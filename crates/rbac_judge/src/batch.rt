@@ -11,8 +11,9 @@ ghost use Rattle.serde_json.specs.View.{view};
 ghost use Rattle.serde_json.specs.Written.{compact_text};
 ghost use Rattle.rbac_judge.specs.Batches.{AreFactsOr, IsBatch, IsCutShort, IsTooLong, LeavesAnswers, bad_json, with_id};
 ghost use Rattle.rbac_judge.specs.Outcome.{printed_of};
-ghost use Rattle.rbac_judge.specs.private.Batching.{BreaksOutput, IsAnsweredBy, IsIdText, IsLineOf, IsPlainAnswer, IsReportAt, IsReportOf, IsSomeHeadLine, LacksHead, OfPolicies};
-ghost use Rattle.rbac_judge.specs.private.Printed.{without_memory};
+ghost use Rattle.rbac_judge.specs.private.Batching.{BreaksOutput, IsAnsweredBy, IsIdText, IsLineOf, IsPlainAnswer, IsReportAt, IsReportOf, IsSomeHeadLine, LacksHead};
+ghost use Rattle.rbac_judge.specs.Batches.{OfPolicies};
+ghost use Rattle.rbac_judge.specs.Reports.{without_memory};
 ghost use Rattle.rbac_judge.specs.declared.report.Report.{Report};
 ghost use Rattle.program_texts.specs.declared.line_fault.LineFault.TheVariants.{BadLine};
 

@@ -2,7 +2,7 @@
 ghost use Rattle.std.specs.Prelude.{◌≡◌, ◌∷◌, ◌++◌, [], codes, IfOk, OnOk, map, string_bytes};
 ghost use Rattle.std.specs.Fmt.{decimal};
 ghost use Rattle.std.specs.List.{flat_map};
-ghost use Rattle.rbac_judge.specs.private.Printed.{without_trials};
+ghost use Rattle.rbac_judge.specs.Reports.{without_trials};
 ghost use Rattle.rbac_judge.specs.Explain.{cause_line, escaped, own_trial_view, quoted, reason_text, reported_trial_view, trial_line, trial_lines, trial_view, unavailable_text};
 
 use crate::error_place::place_of_error;

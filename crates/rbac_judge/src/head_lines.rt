@@ -3,7 +3,7 @@ ghost use Rattle.std.specs.Prelude.{◌≡◌, ◌≢◌, ◌<◌, ◌≤◌, �
 ghost use Rattle.std.specs.Io.{IsEmptyOrEndsWith, StopsAt};
 ghost use Rattle.std.specs.Io.KnownBytes.{Consumes, IsAtEnd};
 ghost use Rattle.rbac_judge.specs.private.Batching.{IsHeadLineOf, IsSomeHeadLine};
-ghost use Rattle.program_texts.specs.private.LineReading.{TurnFault};
+ghost use Rattle.program_texts.specs.InputLines.{IsReadingFault};
 
 use program_texts::{ReplayFault, input_fault};
 use std::alloc::{AllocError, Global};
@@ -27,7 +27,7 @@ pub(crate) fn read_head_line<R: BufRead>(
     input: &mut R,
 ) -> Result<Option<HeadLine>, ReplayFault>
     ensures found { IfOk result (λ found. IsSomeHeadLine found (R.remaining input.old) (R.remaining input.new)) }
-    ensures fault { IfErr result (λ e. TurnFault e) }
+    ensures fault { IfErr result (λ e. IsReadingFault e) }
 {
     let mut line = Vec::new(alloc);
     let mut count = 0usize;
@@ -68,7 +68,7 @@ fn take_part<R: BufRead>(
         × (r.1 ≡ true → IsEmptyOrEndsWith part 10)
         × (r.1 ≡ true → length part ≡ 0 → OnSome (R.remaining input.old) (IsAtEnd (R.remaining input.new)))
         × (r.0 ≤ room → line.new.items ≡ line.old.items ++ part)) }
-    ensures fault { IfErr result (λ e. TurnFault e) }
+    ensures fault { IfErr result (λ e. IsReadingFault e) }
 {
     let available = match input.fill_buf() {
         Ok(available) => available,

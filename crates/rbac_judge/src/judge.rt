@@ -12,20 +12,24 @@ ghost use Rattle.rbac_policy.specs.Admitted.{filter_view, limits_view};
 ghost use Rattle.rbac_policy.specs.Admission.{Admissible};
 ghost use Rattle.rbac_policy.specs.Verdict.{IsUnconditional};
 ghost use Rattle.rbac_judge.specs.Outcome.{printed_of};
-ghost use Rattle.rbac_judge.specs.private.Printed.{IsPrintedFor, without_memory};
+ghost use Rattle.rbac_judge.specs.Reports.{IsPrintedFor, without_memory};
 ghost use Rattle.rbac_judge.specs.declared.report.Report.{Report};
 ghost use Rattle.program_texts.specs.Output.{BreaksOff};
-ghost use Rattle.rbac_judge.specs.private.Judged.{IsAnswerTo, IsExplanationOf, IsNameOf, IsOutcomeOfAsk, IsOutcomeUnder, bare, report_with};
+ghost use Rattle.rbac_judge.specs.private.Judged.{IsAnswerTo, IsExplanationOf, IsNameOf, IsOutcomeOfAsk, IsOutcomeUnder};
+ghost use Rattle.rbac_judge.specs.Reports.{bare, report_with};
 
+use crate::admitting::admit_file;
 use crate::explain::{Explaining, Explanation, own_trials};
 use crate::input::read_ask;
 use crate::json::Why;
+use crate::notes::Notes;
 use crate::outcome::Outcome;
+use crate::policy_file::PolicyFile;
 use crate::report::Report;
-use attributes::{Conn, Limits, Request};
+use attributes::{Conn, Request};
 use http_front::{HeadAsk, HeadFault};
 use program_texts::write_whole;
-use rbac_policy::{Admitted, admit};
+use rbac_policy::Admitted;
 use stack_machine::RunError;
 use std::alloc::{AllocError, Global};
 use std::io::{self, ErrorKind, Read, Write};
@@ -68,11 +72,11 @@ impl Finding {
     }
 }
 
-/// Checks whether the bytes of a policy file are admitted under this budget.
-pub fn check(alloc: Global, policy: &[u8], budget: u64) -> Outcome
-    ensures { IsCheckOf policy.now budget result }
+/// Checks whether a policy file is admitted under its budget. It is noted which part of a refused one has the fault.
+pub fn check(alloc: Global, policy: PolicyFile<'_>, notes: &mut Notes) -> Outcome
+    ensures { IsCheckOf policy.entry.bytes.now policy.entry.budget result }
 {
-    match admit(alloc, policy, &Limits::largest(), budget) {
+    match admit_file(alloc, policy, notes) {
         Ok(admitted) => Outcome::Admitted {
             policies: admitted.policies(),
             bound: admitted.bound(),
@@ -140,29 +144,30 @@ pub fn plain_conn(alloc: Global) -> Result<Conn, AllocError>
     Ok(Conn::of_scheme(ArcStr::from_str(alloc, "http")?))
 }
 
-/// Judges the head that the input begins with, by the bytes of a policy file under this budget, on a connection with
-/// these facts. An error is one of the input, of another kind than out of memory.
+/// Judges the head that the input begins with, by a policy file under its budget, on a connection with these facts. It
+/// is noted which part of a refused file has the fault. An error is one of the input, of another kind than out of
+/// memory.
 pub fn judge<R: Read + Drop>(
     alloc: Global,
-    policy: &[u8],
-    budget: u64,
+    policy: PolicyFile<'_>,
     conn: Conn,
     explain: bool,
     input: R,
+    notes: &mut Notes,
 ) -> io::Result<Finding>
     ensures found { IfOk result (λ finding. (bytes : List ℕ) × IsAllOf (R.remaining input) bytes
-        × IsOutcomeOf policy.now budget (conn_view conn) bytes (option_map string_bytes finding.name)
-        finding.explanation finding.outcome) }
+        × IsOutcomeOf policy.entry.bytes.now policy.entry.budget (conn_view conn) bytes
+        (option_map string_bytes finding.name) finding.explanation finding.outcome) }
     ensures given { IfOk result (λ finding.
         IsGiven finding.explanation ↔ (IsTrue explain × IsDecision finding.outcome)) }
     ensures fault { IfErr result (λ e. (error_kind e ≢ ErrorKind.OutOfMemory)
-        × Admissible policy.now largest budget) }
+        × Admissible policy.entry.bytes.now largest policy.entry.budget) }
 {
-    match admit(alloc, policy, &Limits::largest(), budget) {
+    match admit_file(alloc, policy, notes) {
         Ok(admitted) => {
             let explaining = Explaining {
                 asked: explain,
-                policy,
+                policy: policy.bytes,
             };
             memory_as_finding(head_finding(alloc, &admitted, conn, explaining, input))
         }

@@ -7,11 +7,12 @@
 use crate::bad_heads::passed_limit;
 use crate::json::Why;
 use crate::outcome::Outcome;
-use attributes::Limits;
+use crate::policy_file::PolicyFile;
+use cost_bound::Budget;
 use fault_texts::{RefusedPart, rule_of};
 use http_front::HeadFault;
 use program_texts::cause_of_bad_facts;
-use proto_wire::{Payload, Reader, Refusal};
+use proto_wire::{Fault, Payload, Reader, Refusal};
 use std::alloc::{AllocError, Global};
 use std::fmt;
 
@@ -92,14 +93,19 @@ impl Notes {
         }
     }
 
-    /// Notes which part of a policy file that is refused under this budget has the fault. If no part has it, and the
-    /// file's own fields may be wrong, it notes what the file looks like.
-    pub fn look_at_policy(&mut self, alloc: Global, bytes: &[u8], budget: u64, outcome: Outcome) {
-        if let Outcome::Refused(refusal) = outcome {
-            self.part = RefusedPart::of(alloc, bytes, refusal, &Limits::largest(), budget);
-            if self.part.place.is_none() && is_of_fields(refusal) {
-                self.policy = likeness_of(bytes);
-            }
+    /// Notes which part of a policy file has the fault with which it was refused. `left` is what the conditions before
+    /// the fault leave of the file's budget. If no part has the fault, and the file's own fields may be wrong, it notes
+    /// what the file looks like.
+    pub(crate) fn look_at_policy(
+        &mut self,
+        alloc: Global,
+        policy: PolicyFile<'_>,
+        fault: &Fault,
+        left: Budget,
+    ) {
+        self.part = RefusedPart::at(alloc, policy.bytes, fault, left, policy.budget);
+        if self.part.place.is_none() && is_of_fields(fault.refusal) {
+            self.policy = likeness_of(policy.bytes);
         }
     }
 }

@@ -2,7 +2,7 @@
 ghost use Rattle.std.specs.Prelude.{◌≡◌, IfOk, string_bytes, true};
 ghost use Rattle.rbac_judge.specs.Explain.{reported_trials, with_trials};
 ghost use Rattle.rbac_judge.specs.Outcome.{line_of, printed_of};
-ghost use Rattle.rbac_judge.specs.private.Printed.{with_why, unexplained, without_memory};
+ghost use Rattle.rbac_judge.specs.Reports.{with_why, unexplained, without_memory};
 
 use crate::explain::{Explanation, push_lines};
 use crate::json::{Why, value_of};

@@ -6,6 +6,7 @@ use Rattle.std.specs.declared.ops.Range.{Range as PortSpan}
 use Rattle.attributes.specs.Address.{IsIpText, Range}
 use Rattle.attributes.specs.Conn.{Facts}
 use Rattle.attributes.specs.Headers.{all_entries}
+use Rattle.attributes.specs.declared.protocol.Protocol.TheVariants.{Http11}
 use Rattle.attributes.specs.Request.{RequestValue, header_of, request_of}
 use Rattle.attributes.specs.declared.address.Ip.{Ip}
 use Rattle.attributes.specs.declared.address.Ip.TheVariants.{V4, V6}
@@ -186,7 +187,7 @@ facts source port uri dns = record {
 
 -- a request without other header lines
 abbrev request : (method target : List ℕ) → Facts → RequestValue
-request method target known = request_of method target true [] known
+request method target known = request_of method target Http11 [] known
 
 -- one that comes from this address
 abbrev from : Ip → RequestValue

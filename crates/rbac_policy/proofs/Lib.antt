@@ -12,7 +12,6 @@ pub mod Uniqueness
 pub mod OneVerdict
 pub mod StandardFacts
 pub mod StandardConditionFacts
-mod BudgetLemmas
 mod IndexLemmas
 mod PolicyNames
 mod ConditionParts

@@ -7,10 +7,12 @@ use Rattle.std.proofs.lemmas.List.{map-id}
 use Rattle.std.proofs.lemmas.Option.{get_or_from_slice_get, slice_get_cases}
 use Rattle.std.proofs.lemmas.Result.{err_from_is_err_and}
 use Rattle.attributes.specs.Headers.{name_cmp}
+use Rattle.attributes.specs.Limits.{LimitsValue}
 use Rattle.cel_tree.specs.Checked.{CelChecked}
 use Rattle.cel_tree.specs.Message.{ArePresent, ExprParts, IsExprOf}
 use Rattle.cel_tree.specs.Places.{PlacedOr as Placed_or}
 use Rattle.cel_read.specs.Places.{ExprFaultAt}
+use Rattle.cel_read.proofs.CheckedLaws.{expr_given}
 use Rattle.cel_read.proofs.PlaceLaws.{expr_fails}
 use Rattle.cel_check.specs.Places.{CheckFaultAt}
 use Rattle.cel_check.proofs.PlaceLaws.{check_fails}
@@ -37,10 +39,14 @@ use Rattle.rbac_match.specs.declared.rule.Side.{Side}
 use Rattle.rbac_match.specs.declared.rule.Side.TheVariants.{Permission, Principal}
 use Rattle.rbac_match.proofs.Places as rule_places
 use Rattle.rbac_match.proofs.Places.{at_in}
+use Rattle.cost_bound.specs.Budgets.{IsTooSmallFor, sum_of}
+use Rattle.cost_bound.specs.declared.budget.Budget.{Budget}
+use Rattle.rbac_policy.specs.Budget.{EntriesCost, OverAt, OverIn, OverInCondition, OverInEntry, OverInFields, OverInPolicies, OverInPolicy, OverInRules}
+use Rattle.rbac_policy.specs.Costs.{Costs}
 use Rattle.rbac_policy.specs.Fault.{PolicyFault, RulesFault, in_permission, in_principal, in_policies, in_rules, rules_fields, unreadable, untyped, not_bool}
 use Rattle.rbac_policy.specs.Keys.{filter_field, rules_field}
 use Rattle.rbac_policy.specs.Message.{condition_in, rule_depth}
-use Rattle.rbac_policy.specs.Places.{Part, of_filter, of_rules, of_policy, of_condition, in_condition, in_rule, ConditionWrong, ConditionWrongAt, unreadable_at, wrong_at, untyped_at, not_bool_at, IsOfExpr, does_not_read, has_no_type, of_another_type, PartFault, side_field, condition_field, StepTo, FaultAt, OfNoPart, PlacedOr, NodeOr, ConditionPartOr, ConditionOr, EntryOr, PoliciesOr, FieldsOr}
+use Rattle.rbac_policy.specs.Places.{Part, of_filter, of_rules, of_policy, of_condition, in_condition, in_rule, ConditionWrong, ConditionWrongAt, unreadable_at, wrong_at, untyped_at, not_bool_at, IsOfExpr, does_not_read, has_no_type, of_another_type, PartFault, side_field, condition_field, StepTo, FaultAt, OfNoPart, PlacedOr, NodeOr, ConditionPartOr, ConditionOr, EntryOr, IsOfEntry, PoliciesOr, FieldsOr}
 use Rattle.rbac_policy.proofs.Besides.{name_same}
 
 -- ---- outer parts
@@ -151,17 +157,10 @@ from_its_parts parts (s ∷ steps) end e bad = (in_condition parts (s ∷ []), r
 -- ---- exits
 
 -- out of memory, or a fault of the part
-pub or_part : (F : Refusal → Type 0) (p : Part) (e : Refusal) → ((d : Refusal) → F d → PartFault p d)
-    → MemoryOr F e → OfNoPart e ⊎ PartFault p e
-or_part F p e weaker (inl memory) = inl (inl memory)
-or_part F p e weaker (inr bad) = inr (weaker e bad)
-
--- at a `?` on a growth of memory
-pub exit_memory : (P : Fault → Type 0) {T : Type 0} (r : Result T Fault) → IsErrAnd r (λ y. y.refusal ≡ Memory)
-    → ((f : Fault) → OfNoPart f.refusal → P f) → IfErr r P
-exit_memory P r left weaker =
-    let l = err_from_is_err_and r left in
-    rw (l.1) (weaker l.0 (inl l.2))
+pub or_part : (Over : Path → Refusal → Type 0) (F : Refusal → Type 0) (p : Part) (f : Fault)
+    → ((d : Refusal) → F d → PartFault p d) → MemoryOr F f.refusal → OfNoPart Over f ⊎ PartFault p f.refusal
+or_part Over F p f weaker (inl memory) = inl (inl memory)
+or_part Over F p f weaker (inr bad) = inr (weaker f.refusal bad)
 
 -- a fault of a part is one after no steps
 pub here_place : (p : Part) (f : Fault) → (path_of f.place).steps ≡ [] → PartFault p f.refusal
@@ -169,9 +168,10 @@ pub here_place : (p : Part) (f : Fault) → (path_of f.place).steps ≡ [] → P
 here_place p f here bad = subst (λ (steps : List Step). FaultAt steps p f.refusal) (sym here) bad
 
 -- at a `?` on a callee whose fault is of the same part
-pub exit_here : (p : Part) {T : Type 0} (r : Result T Fault) (e : Fault) → IsErrAnd r (λ y. y ≡ e)
-    → (path_of e.place).steps ≡ [] → OfNoPart e.refusal ⊎ PartFault p e.refusal → IfErr r (PlacedOr p)
-exit_here p r e left here fault =
+pub exit_here : (Over : Path → Refusal → Type 0) (p : Part) {T : Type 0} (r : Result T Fault) (e : Fault)
+    → IsErrAnd r (λ y. y ≡ e) → (path_of e.place).steps ≡ [] → OfNoPart Over e ⊎ PartFault p e.refusal
+    → IfErr r (PlacedOr Over p)
+exit_here Over p r e left here fault =
     let l = err_from_is_err_and r left in
     rw (l.1, l.2) (elim fault [
       | inl no_part ↦ inl no_part
@@ -179,80 +179,132 @@ exit_here p r e left here fault =
     ])
 
 -- at a `?` on a callee without a place
-pub exit_own : (p : Part) {T : Type 0} (r : Result T Fault) (e : Refusal) → IsErrAnd r (IsOf 0 e)
-    → PartFault p e → IfErr r (PlacedOr p)
-exit_own p r e left bad =
+pub exit_own : (Over : Path → Refusal → Type 0) (p : Part) {T : Type 0} (r : Result T Fault) (e : Refusal) → IsErrAnd r (IsOf 0 e)
+    → PartFault p e → IfErr r (PlacedOr Over p)
+exit_own Over p r e left bad =
     let l = err_from_is_err_and r left in
     rw (l.1) (inr (here_place p l.0 (ap (λ (path : Path). path.steps) l.2.1) (rw (l.2.0) bad)))
 
 -- the fault of a rule, as one of its policy
-pub from_side : (side : Side) (parts : List (List ℕ)) (fs : List Wire) (f : Fault) → Merges parts fs
-    → EachOr side rule_depth (side_field side) fs f → PlacedOr (of_policy parts) f
-from_side side parts fs f merges (inl memory) = inl (inl memory)
-from_side side parts fs f merges (inr (i, child, inner, at, begins, bad)) =
+pub from_side : (Over : Path → Refusal → Type 0) (side : Side) (parts : List (List ℕ)) (fs : List Wire) (f : Fault) → Merges parts fs
+    → EachOr side rule_depth (side_field side) fs f → PlacedOr Over (of_policy parts) f
+from_side Over side parts fs f merges (inl memory) = inl (inl memory)
+from_side Over side parts fs f merges (inr (i, child, inner, at, begins, bad)) =
     inr (further_out Part StepTo PartFault climb (side_field side) i inner (path_of f.place)
     (of_policy parts) (in_rule side (rule rule_depth (child ∷ []))) f.refusal begins
     (fs, merges, inl (record { side = side; child = child; at = at; number = refl; is = refl }))
     (lifted side inner.steps (rule rule_depth (child ∷ [])) f.refusal bad))
 
 -- the fault of a condition, as one of its policy
-pub from_conditions : (parts : List (List ℕ)) (fs : List Wire) (f : Fault) → Merges parts fs → ConditionOr fs f
-    → PlacedOr (of_policy parts) f
-from_conditions parts fs f merges (inl no_part) = inl no_part
-from_conditions parts fs f merges (inr (there, inner, wrong, begins)) =
+pub from_conditions : (limits : LimitsValue) (left : Budget) (parts : List (List ℕ)) (fs : List Wire) (f : Fault)
+    → Merges parts fs → ConditionOr (OverInFields limits left fs) fs f
+    → PlacedOr (OverInPolicy limits left parts) (of_policy parts) f
+from_conditions limits left parts fs f merges (inl (inl memory)) = inl (inl memory)
+from_conditions limits left parts fs f merges (inl (inr over)) = inl (inr (fs, merges, over))
+from_conditions limits left parts fs f merges (inr (there, inner, wrong, begins)) =
     inr (further_out Part StepTo PartFault climb (condition_field (condition_in fs)) 0 inner (path_of f.place)
     (of_policy parts) (of_condition (condition_in fs)) f.refusal begins
     (fs, merges, inr (record { there = there; number = refl; position = refl; is = refl }))
     (from_its_parts (condition_in fs) inner.steps inner.end f.refusal wrong))
 
 -- a policy's fault, as one of its entry
-pub entry_out : (i : ℕ) (entry : Entry text) {T : Type 0} (r s : Result T Fault)
-    → Placed rules_field.policies i r s → IfErr r (PlacedOr (of_policy entry.1)) → IfErr s (EntryOr i entry)
-entry_out i entry (Ok x) s is fault = rw is tt
-entry_out i entry (Err e) s is fault =
+pub entry_out : (limits : LimitsValue) (left : Budget) (i : ℕ) (entry : Entry text) {T : Type 0}
+    (r s : Result T Fault) → Placed rules_field.policies i r s
+    → IfErr r (PlacedOr (OverInPolicy limits left entry.1) (of_policy entry.1))
+    → IfErr s (EntryOr (OverInEntry limits left i entry) i entry)
+entry_out limits left i entry (Ok x) s is fault = rw is tt
+entry_out limits left i entry (Err e) s is fault =
     let l = err_from_is_err_and s is in
     rw (l.1) (elim fault [
-      | inl no_part ↦ inl (rw (l.2.0) no_part)
+      | inl no_part ↦ elim no_part [
+        | inl memory ↦ inl (inl (rw (l.2.0) memory))
+        | inr over ↦ inl (inr (path_of e.place, rw (l.2.0) over, l.2.1))
+      ]
       | inr bad ↦ inr (path_of e.place, l.2.1, rw (l.2.0) bad)
     ])
 
 -- the fault of an entry's policy, as one of the rules
-pub from_policies : (parts : List (List ℕ)) (fs : List Wire) (read : List (Entry text)) (f : Fault) → Merges parts fs
-    → Readable text (payloads rules_field.policies fs) read → PoliciesOr (entries (map_of text read)) f
-    → PlacedOr (of_rules parts) f
-from_policies parts fs read f merges readable (inl no_part) = inl no_part
-from_policies parts fs read f merges readable (inr (i, entry, inner, at, begins, bad)) =
-    inr (further_out Part StepTo PartFault climb rules_field.policies i inner (path_of f.place)
+from_policies : (parts : List (List ℕ)) (fs : List Wire) (read : List (Entry text)) (f : Fault) → Merges parts fs
+    → Readable text (payloads rules_field.policies fs) read → IsOfEntry (entries (map_of text read)) f
+    → FaultAt (path_of f.place).steps (of_rules parts) f.refusal
+from_policies parts fs read f merges readable (i, entry, inner, at, begins, bad) =
+    further_out Part StepTo PartFault climb rules_field.policies i inner (path_of f.place)
     (of_rules parts) (of_policy entry.1) f.refusal begins
     (record { fs = fs; read = read; entry = entry; merges = merges; readable = readable; at = at; number = refl; is = refl })
-    bad)
+    bad
+
+-- where conditions take more than the budget has, in rules of these payloads
+abbrev pub OverInParts : LimitsValue → Budget → Budget → List (List ℕ) → Path → Refusal → Type 0
+OverInParts limits budget left parts path e =
+    (fs : List Wire) × Merges parts fs × OverInRules limits budget left fs path e
 
 -- the fault of the rules' fields, as one of the rules
-pub from_fields : (parts : List (List ℕ)) (fs : List Wire) (f : Fault) → Merges parts fs → FieldsOr fs f
-    → PlacedOr (of_rules parts) f
-from_fields parts fs f merges (inl no_part) = inl no_part
-from_fields parts fs f merges (inr (inl (bad, here))) = inr (here_place (of_rules parts) f here (inr (fs, merges, bad)))
-from_fields parts fs f merges (inr (inr (read, readable, bad))) = from_policies parts fs read f merges readable bad
+pub from_fields : (limits : LimitsValue) (budget left : Budget) (parts : List (List ℕ)) (fs : List Wire) (f : Fault)
+    → Merges parts fs → FieldsOr (OverInRules limits budget left fs) fs f
+    → PlacedOr (OverInParts limits budget left parts) (of_rules parts) f
+from_fields limits budget left parts fs f merges (inl (inl memory)) = inl (inl memory)
+from_fields limits budget left parts fs f merges (inl (inr over)) = inl (inr (fs, merges, over))
+from_fields limits budget left parts fs f merges (inr (inl (bad, here))) = inr (here_place (of_rules parts) f here (inr (fs, merges, bad)))
+from_fields limits budget left parts fs f merges (inr (inr (read, readable, bad))) =
+    inr (from_policies parts fs read f merges readable bad)
 
 -- the fault of the rules, as one of the filter
-pub rules_out : (bytes : List ℕ) (top : List Wire) {T : Type 0} (r s : Result T Fault) → Merges (bytes ∷ []) top
+pub rules_out : (limits : LimitsValue) (budget left : Budget) (bytes : List ℕ) (top : List Wire) {T : Type 0}
+    (r s : Result T Fault) → Merges (bytes ∷ []) top
     → payloads filter_field.rules top ≢ [] → Placed filter_field.rules 0 r s
-    → IfErr r (PlacedOr (of_rules (payloads filter_field.rules top))) → IfErr s (PlacedOr (of_filter bytes))
-rules_out bytes top (Ok x) s merges there is fault = rw is tt
-rules_out bytes top (Err e) s merges there is fault =
+    → IfErr r (PlacedOr (OverInParts limits budget left (payloads filter_field.rules top))
+    (of_rules (payloads filter_field.rules top)))
+    → IfErr s (PlacedOr (OverAt bytes limits budget left) (of_filter bytes))
+rules_out limits budget left bytes top (Ok x) s merges there is fault = rw is tt
+rules_out limits budget left bytes top (Err e) s merges there is fault =
     let l = err_from_is_err_and s is in
     rw (l.1) (elim fault [
-      | inl no_part ↦ inl (rw (l.2.0) no_part)
+      | inl no_part ↦ elim no_part [
+        | inl memory ↦ inl (inl (rw (l.2.0) memory))
+        | inr (fs, inside, over) ↦ inl (inr (record {
+          top = top;
+          fs = fs;
+          inner = path_of e.place;
+          outside = merges;
+          inside = inside;
+          over = rw (l.2.0) over;
+          begins = l.2.1;
+        }))
+      ]
       | inr bad ↦ inr (rw (l.2.0) (further_out Part StepTo PartFault climb filter_field.rules 0
           (path_of e.place) (path_of (l.0).place) (of_filter bytes) (of_rules (payloads filter_field.rules top)) e.refusal l.2.1
           (record { top = top; merges = merges; there = there; number = refl; position = refl; is = refl }) bad))
     ])
 
--- what was read without a place, as it is
-pub entry_in : (es : List (Entry text)) (i : ℕ) (entry : Entry text) (f : Fault) → slice_get es i ≡ Some entry
-    → EntryOr i entry f → PoliciesOr es f
-entry_in es i entry f at (inl no_part) = inl no_part
-entry_in es i entry f at (inr (inner, begins, bad)) = inr (i, entry, inner, at, begins, bad)
+-- the fault of an entry among others, of which those before leave this of the budget
+pub entry_in : (limits : LimitsValue) (budget left : Budget) (es before after : List (Entry text)) (i : ℕ)
+    (entry : Entry text) (f : Fault) (spent : Budget) → slice_get es i ≡ Some entry
+    → es ≡ before ++ entry ∷ after → length before ≡ i → EntriesCost limits before spent
+    → sum_of spent left ≡ budget → EntryOr (OverInEntry limits left i entry) i entry f
+    → PoliciesOr (OverInPolicies limits budget left es) es f
+entry_in limits budget left es before after i entry f spent at whole long costs leaves (inl (inl memory)) = inl (inl memory)
+entry_in limits budget left es before after i entry f spent at whole long costs leaves (inl (inr over)) =
+    inl (inr (record {
+      before = before;
+      entry = entry;
+      after = after;
+      whole = whole;
+      spent = spent;
+      costs = costs;
+      leaves = leaves;
+      over = subst (λ (k : ℕ). OverInEntry limits left k entry (path_of f.place) f.refusal) (sym long) over;
+    }))
+entry_in limits budget left es before after i entry f spent at whole long costs leaves (inr (inner, begins, bad)) =
+    inr (i, entry, inner, at, begins, bad)
+
+-- the fault of a filter's policies, as one of the fields of its rules
+pub fields_in : (limits : LimitsValue) (budget left : Budget) (fs : List Wire) (read : List (Entry text)) (f : Fault)
+    → Readable text (payloads rules_field.policies fs) read
+    → PoliciesOr (OverInPolicies limits budget left (entries (map_of text read))) (entries (map_of text read)) f
+    → FieldsOr (OverInRules limits budget left fs) fs f
+fields_in limits budget left fs read f readable (inl (inl memory)) = inl (inl memory)
+fields_in limits budget left fs read f readable (inl (inr over)) = inl (inr (read, readable, over))
+fields_in limits budget left fs read f readable (inr bad) = inr (inr (read, readable, bad))
 
 -- an element of a list that was mapped
 pub at_map : {A B : Type 0} (g : A → B) (xs : List A) (i : ℕ) (d : A) → i < length xs
@@ -262,28 +314,45 @@ at_map g (x ∷ xs) zero d within = refl
 at_map g (x ∷ xs) (suc i) d within = at_map g xs i d (omega (arith, within))
 
 -- a fault of a condition that was placed inside its field
-pub condition_out : (fs : List Wire) (n : ℕ) (inner outer : Fault) → ConditionPartOr (condition_in fs) inner
-    → n ≡ condition_field (condition_in fs) → IsInside n 0 inner outer → ConditionOr fs outer
-condition_out fs n inner outer (inl no_part) number inside = inl (rw (inside.0) no_part)
-condition_out fs n inner outer (inr (there, wrong)) number inside =
+pub condition_out : (limits : LimitsValue) (left : Budget) (fs : List Wire) (n : ℕ) (inner outer : Fault)
+    → ConditionPartOr (OverInCondition limits left (condition_in fs)) (condition_in fs) inner
+    → n ≡ condition_field (condition_in fs) → IsInside n 0 inner outer
+    → ConditionOr (OverInFields limits left fs) fs outer
+condition_out limits left fs n inner outer (inl (inl memory)) number inside = inl (inl (rw (inside.0) memory))
+condition_out limits left fs n inner outer (inl (inr over)) number inside = inl (inr (
+  expr_given (condition_in fs) over.0 over.2,
+  path_of inner.place,
+  rw (inside.0) over,
+  rw number at inside.1,
+))
+condition_out limits left fs n inner outer (inr (there, wrong)) number inside =
     inr (there, path_of inner.place, rw (inside.0) wrong, rw number at inside.1)
 
 -- the fault of an expression that has no type
-pub untyped_node : (x : CelChecked) (f : Fault) → Placed_or (CheckFaultAt x) f → NodeOr x f
-untyped_node x f (inl memory) = inl (inl memory)
-untyped_node x f (inr bad) = inr (untyped_at bad)
+pub untyped_node : (Over : Path → Refusal → Type 0) (x : CelChecked) (f : Fault) → Placed_or (CheckFaultAt x) f
+    → NodeOr Over x f
+untyped_node Over x f (inl memory) = inl (inl memory)
+untyped_node Over x f (inr bad) = inr (untyped_at bad)
 
--- at a `?` on a callee without a place, whose refusal is of no part
-pub exit_no_part : (x : CelChecked) {T : Type 0} (r : Result T Fault) (e : Refusal) → IsErrAnd r (IsOf 0 e) → OfNoPart e
-    → IfErr r (NodeOr x)
-exit_no_part x r e left no_part =
+-- at a `?` on a callee without a place that ran out of memory
+pub exit_no_memory : (Over : Path → Refusal → Type 0) (x : CelChecked) {T : Type 0} (r : Result T Fault) (e : Refusal)
+    → IsErrAnd r (IsOf 0 e) → e ≡ Memory → IfErr r (NodeOr Over x)
+exit_no_memory Over x r e left memory =
     let l = err_from_is_err_and r left in
-    rw (l.1) (inl (rw (l.2.0) no_part))
+    rw (l.1) (inl (inl (l.2.0 ∙ memory)))
+
+-- at a `?` on a callee without a place, for an expression that takes more than is left
+pub exit_over : (limits : LimitsValue) (budget needs : Budget) (x : CelChecked) {T : Type 0} (r : Result T Fault)
+    (e : Refusal) → IsErrAnd r (IsOf 0 e) → Costs limits x needs → IsTooSmallFor budget needs e
+    → IfErr r (NodeOr (OverIn limits budget x) x)
+exit_over limits budget needs x r e left costs small =
+    let l = err_from_is_err_and r left in
+    rw (l.1) (inl (inr (needs, costs, rw (l.2.0) small, ap (λ (path : Path). path.steps) l.2.1)))
 
 -- at a `?` on what reads a condition's expression
-pub expr_exit : (parts : ExprParts) {T : Type 0} (r : Result T Fault) (e : Fault) → IsErrAnd r (λ y. y ≡ e)
-    → ArePresent parts → Placed_or (ExprFaultAt parts) e → IfErr r (ConditionPartOr parts)
-expr_exit parts r e left there fault =
+pub expr_exit : (Over : Path → Refusal → Type 0) (parts : ExprParts) {T : Type 0} (r : Result T Fault) (e : Fault) → IsErrAnd r (λ y. y ≡ e)
+    → ArePresent parts → Placed_or (ExprFaultAt parts) e → IfErr r (ConditionPartOr Over parts)
+expr_exit Over parts r e left there fault =
     let l = err_from_is_err_and r left in
     rw (l.1, l.2) (elim fault [
       | inl memory ↦ inl (inl memory)
@@ -295,13 +364,18 @@ abbrev pub OfExpr : {T : Type 0} → ExprParts → Result T Fault → Result T F
 OfExpr parts r s = MatchResult r (λ x. s ≡ Ok x)
     (λ e. IsErrAnd s (λ f. (f.refusal ≡ e.refusal) × IsOfExpr parts (path_of e.place) (path_of f.place)))
 
-pub node_out : (parts : ExprParts) (x : CelChecked) {T : Type 0} (r s : Result T Fault) → OfExpr parts r s
-    → ArePresent parts → IsExprOf parts x → IfErr r (NodeOr x) → IfErr s (ConditionPartOr parts)
-node_out parts x (Ok y) s is there reads fault = rw is tt
-node_out parts x (Err e) s is there reads fault =
+pub node_out : (limits : LimitsValue) (left : Budget) (parts : ExprParts) (x : CelChecked) {T : Type 0}
+    (r s : Result T Fault) → OfExpr parts r s → ArePresent parts → IsExprOf parts x
+    → IfErr r (NodeOr (OverIn limits left x) x)
+    → IfErr s (ConditionPartOr (OverInCondition limits left parts) parts)
+node_out limits left parts x (Ok y) s is there reads fault = rw is tt
+node_out limits left parts x (Err e) s is there reads fault =
     let l = err_from_is_err_and s is in
     rw (l.1) (elim fault [
-      | inl no_part ↦ inl (rw (l.2.0) no_part)
+      | inl no_part ↦ elim no_part [
+        | inl memory ↦ inl (inl (rw (l.2.0) memory))
+        | inr over ↦ inl (inr (x, path_of e.place, reads, rw (l.2.0) over, l.2.1))
+      ]
       | inr bad ↦ inr (there, rw (l.2.0) (wrong_at x (path_of e.place) reads bad l.2.1))
     ])
 
@@ -318,16 +392,16 @@ of_expr_fault parts F G (Err e) s is fault weaker =
     rw (l.1, l.2.0) (memory_or_weaker F G e.refusal weaker fault)
 
 -- a fault of the fields of the rules that is of no policy
-pub fields_at : (fs : List Wire) (n : ℕ) (e : Refusal) {T : Type 0} (r : Result T Fault) (f : Fault)
-    → IsErrAnd r (λ y. y ≡ f) → IsOf n e f → RulesFault fs e → IfErr r (FieldsOr fs)
-fields_at fs n e r f left at bad =
+pub fields_at : (Over : Path → Refusal → Type 0) (fs : List Wire) (n : ℕ) (e : Refusal) {T : Type 0} (r : Result T Fault) (f : Fault)
+    → IsErrAnd r (λ y. y ≡ f) → IsOf n e f → RulesFault fs e → IfErr r (FieldsOr Over fs)
+fields_at Over fs n e r f left at bad =
     let l = err_from_is_err_and r left in
     rw (l.1, l.2) (inr (inl (rw (at.0) bad, ap (λ (path : Path). path.steps) at.1)))
 
 -- the same, of one without a place
-pub fields_own : (fs : List Wire) {T : Type 0} (r : Result T Fault) (e : Refusal) → IsErrAnd r (IsOf 0 e)
-    → MemoryOr (RulesFault fs) e → IfErr r (FieldsOr fs)
-fields_own fs r e left fault =
+pub fields_own : (Over : Path → Refusal → Type 0) (fs : List Wire) {T : Type 0} (r : Result T Fault) (e : Refusal) → IsErrAnd r (IsOf 0 e)
+    → MemoryOr (RulesFault fs) e → IfErr r (FieldsOr Over fs)
+fields_own Over fs r e left fault =
     let l = err_from_is_err_and r left in
     rw (l.1) (elim fault [
       | inl memory ↦ inl (inl (l.2.0 ∙ memory))
@@ -335,17 +409,17 @@ fields_own fs r e left fault =
     ])
 
 -- at a `?` on a callee whose fault is of a field of the part
-pub exit_at : (p : Part) (n : ℕ) (e : Refusal) {T : Type 0} (r : Result T Fault) (f : Fault) → IsErrAnd r (λ y. y ≡ f)
-    → IsOf n e f → PartFault p e → IfErr r (PlacedOr p)
-exit_at p n e r f left at bad =
-    exit_here p r f left (ap (λ (path : Path). path.steps) at.1) (inr (rw (at.0) bad))
+pub exit_at : (Over : Path → Refusal → Type 0) (p : Part) (n : ℕ) (e : Refusal) {T : Type 0} (r : Result T Fault) (f : Fault) → IsErrAnd r (λ y. y ≡ f)
+    → IsOf n e f → PartFault p e → IfErr r (PlacedOr Over p)
+exit_at Over p n e r f left at bad =
+    exit_here Over p r f left (ap (λ (path : Path). path.steps) at.1) (inr (rw (at.0) bad))
 
 -- the fault of a message's fields, as one of the part that is the message
-pub fields_placed : (keys : List Key) (parts : List (List ℕ)) (p : Part) {T : Type 0} (r : Result T Fault)
+pub fields_placed : (Over : Path → Refusal → Type 0) (keys : List Key) (parts : List (List ℕ)) (p : Part) {T : Type 0} (r : Result T Fault)
     → IfErr r (FaultOr (MessageFault keys parts)) → IfErr r (MessagePlace keys parts)
-    → ((d : Refusal) → MessageFault keys parts d → PartFault p d) → IfErr r (PlacedOr p)
-fields_placed keys parts p (Ok x) fault place weaker = tt
-fields_placed keys parts p (Err f) fault place weaker = elim fault [
+    → ((d : Refusal) → MessageFault keys parts d → PartFault p d) → IfErr r (PlacedOr Over p)
+fields_placed Over keys parts p (Ok x) fault place weaker = tt
+fields_placed Over keys parts p (Err f) fault place weaker = elim fault [
   | inl memory ↦ inl (inl memory)
   | inr bad ↦ inr (here_place p f (no_steps keys parts f place) (weaker f.refusal bad))
 ]

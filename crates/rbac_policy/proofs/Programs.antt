@@ -17,6 +17,10 @@ use Rattle.cel_types.specs.Meaning.{eval}
 use Rattle.cel_types.specs.Typing.{maps_of}
 use Rattle.cel_types.proofs.OneElaboration.{one_elaboration}
 use Rattle.cel_costs.specs.Costs.{cost_of}
+use Rattle.cel_costs.specs.Visits.{visits_of}
+use Rattle.cost_bound.specs.Budgets.{needs_of}
+use Rattle.cost_bound.specs.declared.budget.Budget.{Budget}
+use Rattle.cost_bound.proofs.BudgetLaws.{same_budget}
 use Rattle.cel_compile.specs.Codes.{code_of}
 use Rattle.cel_compile.specs.Sound.{RunsToMeaning}
 use Rattle.cel_compile.proofs.Meaning.{code_means}
@@ -25,6 +29,7 @@ use Rattle.machine_code.specs.Machine.{Ends, RunsOut}
 use Rattle.machine_code.proofs.Chains.{never_both_lem, one_end_lem}
 use Rattle.rbac_policy.specs.Condition.{IsProgramOf, Program, came_true, is_met}
 use Rattle.rbac_policy.specs.Costs.{Costs}
+use Rattle.rbac_policy.specs.Enforced.{program_needs}
 use Rattle.rbac_policy.specs.private.Runs.{RunsAs}
 
 -- ---- limits that a request is within
@@ -58,7 +63,7 @@ limits_of r = record {
   value = longest (λ e. length e.1) (entries r.headers);
   method = length r.method;
   target = length r.target;
-  text = max (length (protocol_of r.http11)) (longest length_of (texts_of r.facts));
+  text = max (length (protocol_of r.protocol)) (longest length_of (texts_of r.facts));
 }
 
 within_own : (r : RequestValue) → InLimits r (limits_of r)
@@ -71,8 +76,8 @@ within_own r =
       );
       method = omega arith;
       target = omega arith;
-      protocol = le-max_left (length (protocol_of r.http11)) (longest length_of (texts_of r.facts));
-      facts = texts_within (texts_of r.facts) _ (le-max_right (length (protocol_of r.http11)) (longest length_of (texts_of r.facts)));
+      protocol = le-max_left (length (protocol_of r.protocol)) (longest length_of (texts_of r.facts));
+      facts = texts_within (texts_of r.facts) _ (le-max_right (length (protocol_of r.protocol)) (longest length_of (texts_of r.facts)));
     }
 
 -- ---- programs
@@ -85,36 +90,41 @@ program_unique limits c p q a b =
     one_elaboration (maps_of c) [] c.tree a.e b.e a.elaborated.elaborates b.elaborated.elaborates in
     let code : p.code ≡ q.code = a.code ∙ ap (λ e. code_of 0 0 e) same ∙ sym b.code in
     let bound : p.bound ≡ q.bound = a.bound ∙ ap (λ e. cost_of e limits []) same ∙ sym b.bound in
-    let make : List Instruction → ℕ → Program = λ x n. record { code = x; bound = n } in
-    ap₂ make code bound
+    let visits : p.visits ≡ q.visits = a.visits ∙ ap (λ e. visits_of e limits []) same ∙ sym b.visits in
+    λ i. record { code = code i; bound = bound i; visits = visits i }
 
 -- a program may take what its condition costs
 pub program_costs : (limits : LimitsValue) (c : CelChecked) (p : Program) → IsProgramOf limits c p
-    → Costs limits c p.bound
-program_costs limits c p is =
-    record { e = is.e; elaborated = is.elaborated; has_type = is.has_type; is = is.bound }
+    → Costs limits c (program_needs (Some p))
+program_costs limits c p is = record {
+  e = is.e;
+  elaborated = is.elaborated;
+  has_type = is.has_type;
+  is = same_budget (program_needs (Some p)) (needs_of is.e limits) is.bound is.visits;
+}
 
 -- a condition that costs something has a program that may take it
-pub program_of_cost : (limits : LimitsValue) (c : CelChecked) (cost : ℕ) → Costs limits c cost
-    → (p : Program) × IsProgramOf limits c p × (p.bound ≡ cost)
-program_of_cost limits c cost costs = (
-  record { code = code_of 0 0 costs.e; bound = cost },
+pub program_of_cost : (limits : LimitsValue) (c : CelChecked) (needs : Budget) → Costs limits c needs
+    → (p : Program) × IsProgramOf limits c p × (program_needs (Some p) ≡ needs)
+program_of_cost limits c needs costs = (
+  record { code = code_of 0 0 costs.e; bound = needs.steps; visits = needs.visits },
   record {
     e = costs.e;
     elaborated = costs.elaborated;
     has_type = costs.has_type;
     code = refl;
-    bound = costs.is;
+    bound = ap (λ (n : Budget). n.steps) costs.is;
+    visits = ap (λ (n : Budget). n.visits) costs.is;
   },
   refl,
 )
 
 -- a condition has one cost at most
-pub cost_unique : (limits : LimitsValue) (c : CelChecked) (m n : ℕ) → Costs limits c m → Costs limits c n → m ≡ n
+pub cost_unique : (limits : LimitsValue) (c : CelChecked) (m n : Budget) → Costs limits c m → Costs limits c n → m ≡ n
 cost_unique limits c m n a b =
     let same : a.e ≡ b.e =
     one_elaboration (maps_of c) [] c.tree a.e b.e a.elaborated.elaborates b.elaborated.elaborates in
-    a.is ∙ ap (λ e. cost_of e limits []) same ∙ sym b.is
+    a.is ∙ ap (λ e. needs_of e limits) same ∙ sym b.is
 
 module _ (limits : LimitsValue) (c : CelChecked) (p : Program) (good : HasGoodConstants c.tree)
     (is : IsProgramOf limits c p) (r : RequestValue) (valid : IsRequest r) where

@@ -34,6 +34,8 @@ use Rattle.cel_types.specs.Agreeing.{TypeAgrees}
 use Rattle.cel_types.proofs.CheckLaws.{agreeing_typed}
 use Rattle.rbac_match.specs.Formula.{any, end, formula}
 use Rattle.rbac_match.specs.declared.rule.Side.TheVariants.{Permission, Principal}
+use Rattle.cost_bound.specs.Budgets.{nothing as no_needs}
+use Rattle.cost_bound.specs.declared.budget.Budget.{Budget}
 use Rattle.rbac_policy.specs.Admission.{IsAdmissibleAs}
 use Rattle.rbac_policy.specs.Condition.{is_met}
 use Rattle.rbac_policy.specs.Costs.{Costs, FilterCosts, PoliciesCost}
@@ -356,19 +358,22 @@ is_elaborated = record {
   );
 }
 
--- 4 steps, whatever the limits
-pub condition_costs : (limits : LimitsValue) → Costs limits condition 4
+-- 4 steps and 3 visits, whatever the limits
+abbrev pub four : Budget
+four = record { steps = 4; visits = 3 }
+
+pub condition_costs : (limits : LimitsValue) → Costs limits condition four
 condition_costs limits = record { e = elaborated; elaborated = is_elaborated; has_type = refl; is = refl }
 
-pub filter_costs : (limits : LimitsValue) → FilterCosts limits filter 4
+pub filter_costs : (limits : LimitsValue) → FilterCosts limits filter four
 filter_costs limits =
-    subst (λ ps. PoliciesCost limits ps 4) (sym (entries_from_entries name_cmp nat_list_cmp_total policies tt))
-    (4, 0, condition_costs limits, refl, refl)
+    subst (λ ps. PoliciesCost limits ps four) (sym (entries_from_entries name_cmp nat_list_cmp_total policies tt))
+    (four, no_needs, condition_costs limits, refl, refl)
 
--- it is admissible with a budget of 4
-pub is_admissible : (limits : LimitsValue) → IsAdmissibleAs filter_bytes limits 4 filter
+-- it is admissible with such a budget
+pub is_admissible : (limits : LimitsValue) → IsAdmissibleAs filter_bytes limits four filter
 is_admissible limits =
-    record { message = is_filter; cost = 4; costs = filter_costs limits; cheap = omega arith }
+    record { message = is_filter; needs = four; costs = filter_costs limits; covered = (omega arith, omega arith) }
 
 -- ---- its answer
 

@@ -24,6 +24,9 @@ use Rattle.cel_types.proofs.CheckLaws.{check_disjoint, check_total}
 use Rattle.cel_types.proofs.Elaborating.{elaborated}
 use Rattle.cel_types.proofs.OneType.{one_type}
 use Rattle.cel_costs.specs.Costs.{cost_of}
+use Rattle.cel_costs.specs.Visits.{visits_of}
+use Rattle.cost_bound.specs.Budgets.{Covers}
+use Rattle.cost_bound.specs.declared.budget.Budget.{Budget}
 use Rattle.cel_compile.specs.Codes.{code_of}
 use Rattle.rbac_match.specs.Rules.{IsRule, AreRules, RuleFault}
 use Rattle.rbac_match.specs.Formula.{Formulas}
@@ -31,9 +34,9 @@ use Rattle.rbac_match.specs.declared.rule.Side.{Side}
 use Rattle.rbac_match.specs.declared.rule.Side.TheVariants.{Permission, Principal}
 use Rattle.rbac_match.proofs.Basics.{nil_or_not, same_or_not}
 use Rattle.rbac_match.proofs.RuleMessages.{rules_total, rules_disjoint}
-use Rattle.rbac_policy.specs.Admission.{Admissible, Fault, in_message, too_costly}
+use Rattle.rbac_policy.specs.Admission.{Admissible, Fault, in_message, too_much}
 use Rattle.rbac_policy.specs.Condition.{IsProgramOf, Program}
-use Rattle.rbac_policy.specs.Enforced.{Enforces, EnforcesPolicy, bounds_of, total_bound}
+use Rattle.rbac_policy.specs.Enforced.{Enforces, EnforcesPolicy, policies_need, total_needs}
 use Rattle.rbac_policy.specs.Filter.{Policy, Filter}
 use Rattle.rbac_policy.specs.Keys.{rules_field, policy_field, filter_keys, policy_keys, filter_field, rules_keys}
 use Rattle.rbac_policy.specs.Message.{rule_depth, most_policies, HasBothSides, IsCondition, IsPolicy, condition_in, action_in, action_number, AreFilterRules, IsFilter}
@@ -88,13 +91,14 @@ module _ (limits : LimitsValue) where
   program_there : (c : CelChecked) → IsTyped c bool_type → (program : Program) × IsProgramOf limits c program
   program_there c typed =
       let e = elaborated (maps_of c) [] c.tree bool_type typed.types in (
-        record { code = code_of 0 0 e.0; bound = cost_of e.0 limits [] },
+        record { code = code_of 0 0 e.0; bound = cost_of e.0 limits []; visits = visits_of e.0 limits [] },
         record {
           e = e.0;
           elaborated = record { typed = subst (λ u. IsTyped c u) (sym e.2) typed; elaborates = e.1 };
           has_type = e.2;
           code = refl;
           bound = refl;
+          visits = refl;
         },
       )
 
@@ -297,41 +301,52 @@ module _ (limits : LimitsValue) where
   listed_in : (bytes : List ℕ) (filter : Filter CelChecked) (enforced : Filter Program) (is : IsFilter bytes filter)
       → Enforces limits filter enforced
       → (vs : List (List ℕ × Policy Program)) × Beside (IsEnforced limits) (entries (map_of text is.rules.policies.0)) vs
-      × (total_bound enforced ≡ bounds_of vs)
+      × (total_needs enforced ≡ policies_need vs)
   listed_in bytes filter enforced is enforces =
       enforced_beside limits (map_of text is.rules.policies.0) filter enforced is.rules.policies.2 enforces
 
+  -- the policies of a filter's message take what its conditions take
+  costs_there : (bytes : List ℕ) (filter : Filter CelChecked) (enforced : Filter Program) (is : IsFilter bytes filter)
+      → Enforces limits filter enforced
+      → (ns : List (Entry text)) × HoldsPolicies bytes ns × SomeCost limits ns (total_needs enforced)
+  costs_there bytes filter enforced is enforces =
+      let listed = listed_in bytes filter enforced is enforces in
+      let ns : List (Entry text) = entries (map_of text is.rules.policies.0) in (
+        ns,
+        record {
+          top = is.top;
+          fs = is.fs;
+          read = is.rules.policies.0;
+          outer = is.message.0;
+          inner = is.inner.0;
+          readable = entries_readable text (payloads rules_field.policies is.fs) is.rules.policies.0 is.rules.policies.1;
+          named = refl;
+        },
+        rw (listed.2) (all_cost limits ns listed.0 listed.1),
+      )
+
   -- bytes are admissible or have a fault
-  pub bytes_total : (bytes : List ℕ) (budget : ℕ)
+  pub bytes_total : (bytes : List ℕ) (budget : Budget)
       → Admissible bytes limits budget ⊎ ((e : Refusal) × Fault e bytes limits budget)
   bytes_total bytes budget = elim (filter_total bytes) [
     | inr bad ↦ inr (bad.0, in_message bad.1)
-    | inl (filter, enforced, is, enforces) ↦ elim (cases_lt budget (total_bound enforced)) [
-      | inr cheap ↦ inl (
-        filter,
-        record {
-          message = is;
-          cost = total_bound enforced;
-          costs = enforced_costs limits filter enforced enforces;
-          cheap = cheap;
-        },
-      )
-      | inl more ↦
-          let listed = listed_in bytes filter enforced is enforces in
-          let ns : List (Entry text) = entries (map_of text is.rules.policies.0) in
-          inr (
-            TooCostly,
-            too_costly ns (bounds_of listed.0) (record {
-              top = is.top;
-              fs = is.fs;
-              read = is.rules.policies.0;
-              outer = is.message.0;
-              inner = is.inner.0;
-              readable = entries_readable text (payloads rules_field.policies is.fs) is.rules.policies.0 is.rules.policies.1;
-              named = refl;
-            }) (all_cost limits ns listed.0 listed.1) (rw (← listed.2) more) refl,
-          )
-    ]
+    | inl (filter, enforced, is, enforces) ↦
+        let there = costs_there bytes filter enforced is enforces in
+        elim (cases_lt budget.steps (total_needs enforced).steps) [
+          | inl more ↦ inr (TooCostly, too_much there.0 (total_needs enforced) there.1 there.2 (inl (refl, more)))
+          | inr cheap ↦ elim (cases_lt budget.visits (total_needs enforced).visits) [
+            | inl more ↦ inr (TooLarge, too_much there.0 (total_needs enforced) there.1 there.2 (inr (refl, more)))
+            | inr few ↦ inl (
+              filter,
+              record {
+                message = is;
+                needs = total_needs enforced;
+                costs = enforced_costs limits filter enforced enforces;
+                covered = (cheap, few);
+              },
+            )
+          ]
+        ]
   ]
 
   -- the rules of a filter have no fault
@@ -378,18 +393,24 @@ module _ (limits : LimitsValue) where
       holds.named ∙ ap (λ es. entries (map_of text es)) (readable_unique text (payloads rules_field.policies is.fs) is.rules.policies.0 holds.read is.rules.policies.1 (subst Q same holds.readable))
 
   -- admissible bytes have no fault
-  pub bytes_disjoint : (e : Refusal) (bytes : List ℕ) (budget : ℕ) → Admissible bytes limits budget
+  pub bytes_disjoint : (e : Refusal) (bytes : List ℕ) (budget : Budget) → Admissible bytes limits budget
       → Fault e bytes limits budget → ⊥
   bytes_disjoint e bytes budget (filter, is) (in_message bad) =
-      let there = enforced_there limits filter is.cost is.costs in
+      let there = enforced_there limits filter is.needs is.costs in
       filter_disjoint bytes filter there.0 e is.message there.1 bad
-  bytes_disjoint e bytes budget (filter, is) (too_costly policies cost holds costs above at) =
-      let there = enforced_there limits filter is.cost is.costs in
+  bytes_disjoint e bytes budget (filter, is) (too_much policies needs holds costs small) =
+      let there = enforced_there limits filter is.needs is.costs in
       let listed = listed_in bytes filter there.0 is.message there.1 in
       let same = policies_are bytes filter is.message policies holds in
-      let most : cost ≤ bounds_of listed.0 =
-      cost_most limits (entries (map_of text is.message.rules.policies.0)) listed.0 cost listed.1 (subst (λ ns. SomeCost limits ns cost) same costs) in
-      let cheap : is.cost ≤ budget = is.cheap in
-      let own : total_bound there.0 ≡ is.cost = there.2 in
-      let sum : total_bound there.0 ≡ bounds_of listed.0 = listed.2 in
-      absurd (omega (arith, most, cheap, above, own, sum))
+      let most : Covers (policies_need listed.0) needs =
+      cost_most limits (entries (map_of text is.message.rules.policies.0)) listed.0 needs listed.1 (subst (λ ns. SomeCost limits ns needs) same costs) in
+      let own : is.needs ≡ policies_need listed.0 = sym there.2 ∙ listed.2 in
+      let covered : Covers budget (policies_need listed.0) = subst (Covers budget) own is.covered in
+      let most_steps = most.0 in
+      let most_visits = most.1 in
+      let steps = covered.0 in
+      let visits = covered.1 in
+      elim small [
+        | inl (at, above) ↦ absurd (omega (arith, most_steps, steps, above))
+        | inr (at, above) ↦ absurd (omega (arith, most_visits, visits, above))
+      ]

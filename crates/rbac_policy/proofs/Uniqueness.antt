@@ -14,6 +14,7 @@ use Rattle.attributes.specs.Limits.{LimitsValue}
 use Rattle.cel_tree.specs.Checked.{CelChecked}
 use Rattle.cel_tree.specs.Message.{ExprParts}
 use Rattle.cel_read.proofs.CheckedLaws.{expr_unique}
+use Rattle.cost_bound.specs.declared.budget.Budget.{Budget}
 use Rattle.rbac_policy.specs.Admission.{Admits}
 use Rattle.rbac_policy.specs.Condition.{Program}
 use Rattle.rbac_policy.specs.Enforced.{Enforces}
@@ -82,7 +83,7 @@ filter_unique bytes f g a b =
     rules_unique a.fs f g a.rules (subst Q same b.rules)
 
 -- bytes are admitted as one filter, of which one thing is enforced
-pub admits_unique : (bytes : List ℕ) (limits : LimitsValue) (budget : ℕ) (f f' : Filter CelChecked)
+pub admits_unique : (bytes : List ℕ) (limits : LimitsValue) (budget : Budget) (f f' : Filter CelChecked)
     (g g' : Filter Program) → Admits bytes limits budget f g → Admits bytes limits budget f' g'
     → (f ≡ f') × (g ≡ g')
 admits_unique bytes limits budget f f' g g' a b =

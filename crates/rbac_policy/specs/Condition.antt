@@ -8,6 +8,7 @@ use Rattle.cel_tree.specs.Checked.{CelChecked}
 use Rattle.cel_types.specs.Elaborated.{IsElaborated, TypedTree, kind}
 use Rattle.cel_types.specs.Meaning.{eval}
 use Rattle.cel_costs.specs.Costs.{cost_of}
+use Rattle.cel_costs.specs.Visits.{visits_of}
 use Rattle.cel_compile.specs.Codes.{code_of}
 use Rattle.machine_code.specs.Instructions.{Instruction}
 use Rattle.machine_code.specs.Machine.{RunsOut}
@@ -22,18 +23,22 @@ came_true _ = false
 abbrev pub is_met : RequestValue → CelChecked → Bool
 is_met request condition = came_true (eval condition.tree request [])
 
--- what is enforced for a condition: its code, and how many steps the code may take
+-- what is enforced for a condition: its code, and how many steps the code may take. With it goes how many visits
+-- this bound took
 pub record Program : Type 0 where
   pub code : List Instruction
   pub bound : ℕ
+  pub visits : ℕ
 
--- the condition has the type bool; this is its code, and what it costs for requests within the limits
+-- the condition has the type bool; this is its code, and what it costs for requests within the limits, in steps
+-- and in visits
 pub record IsProgramOf (limits : LimitsValue) (condition : CelChecked) (program : Program) : Type 0 where
   pub e : TypedTree
   pub elaborated : IsElaborated condition e
   pub has_type : kind e ≡ bool_type
   pub code : program.code ≡ code_of 0 0 e
   pub bound : program.bound ≡ cost_of e limits []
+  pub visits : program.visits ≡ visits_of e limits []
 
 -- on the request, the condition's code takes more steps than it may
 abbrev pub TakesTooLong : LimitsValue → RequestValue → CelChecked → Type 0

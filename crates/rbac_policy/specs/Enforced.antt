@@ -1,8 +1,10 @@
 -- What is enforced for a filter: its conditions as programs.
-use Rattle.std.specs.Prelude.{◌≡◌, ℕ, ◌+◌, List, [], ◌∷◌, Option, Some, None, IsSomeAnd, MatchOption}
+use Rattle.std.specs.Prelude.{◌≡◌, ℕ, List, [], ◌∷◌, Option, Some, None, IsSomeAnd, MatchOption}
 use Rattle.std.specs.FinMap.{entries, get}
 use Rattle.attributes.specs.Limits.{LimitsValue}
 use Rattle.cel_tree.specs.Checked.{CelChecked}
+use Rattle.cost_bound.specs.Budgets.{nothing, sum_of}
+use Rattle.cost_bound.specs.declared.budget.Budget.{Budget}
 use Rattle.rbac_policy.specs.Condition.{IsProgramOf, Program}
 use Rattle.rbac_policy.specs.Filter.{Filter, Policy}
 
@@ -22,16 +24,20 @@ pub record Enforces (limits : LimitsValue) (filter : Filter CelChecked) (enforce
       (get enforced.policies name ≡ None)
       (λ policy. IsSomeAnd (get enforced.policies name) (EnforcesPolicy limits policy))
 
--- how many steps a policy's condition may take
-abbrev pub bound_of : Option Program → ℕ
-bound_of None = 0
-bound_of (Some program) = program.bound
+-- how many steps a policy's condition may take, and the visits of its measuring
+abbrev pub program_needs : Option Program → Budget
+program_needs None = nothing
+program_needs (Some program) = record { steps = program.bound; visits = program.visits }
 
--- how many steps the policies' conditions together may take
-abbrev pub bounds_of : List (List ℕ × Policy Program) → ℕ
-bounds_of [] = 0
-bounds_of ((name, policy) ∷ others) = bound_of policy.condition + bounds_of others
+-- the same of the policies' conditions together
+abbrev pub policies_need : List (List ℕ × Policy Program) → Budget
+policies_need [] = nothing
+policies_need ((name, policy) ∷ others) = sum_of (program_needs policy.condition) (policies_need others)
+
+-- the same of the conditions of a filter together
+abbrev pub total_needs : Filter Program → Budget
+total_needs enforced = policies_need (entries enforced.policies)
 
 -- how many steps the conditions of a filter together may take
 abbrev pub total_bound : Filter Program → ℕ
-total_bound enforced = bounds_of (entries enforced.policies)
+total_bound enforced = (total_needs enforced).steps

@@ -1,5 +1,5 @@
 -- The faults of bytes that are no admissible filter, each with its refusal.
-use Rattle.std.specs.Prelude.{◌≡◌, ◌≢◌, ◌⊎◌, ℕ, ◌+◌, ◌<◌, List, [], ◌∷◌}
+use Rattle.std.specs.Prelude.{◌≡◌, ◌≢◌, ◌⊎◌, ℕ, ◌<◌, List, [], ◌∷◌}
 use Rattle.std.specs.FinMap.{entries, len}
 use Rattle.proto_wire.specs.Fields.{Wire}
 use Rattle.proto_wire.specs.Values.{payloads}
@@ -13,6 +13,8 @@ use Rattle.cel_value.specs.Types.{ValueType, bool_type}
 use Rattle.cel_tree.specs.Checked.{CelChecked}
 use Rattle.cel_tree.specs.Message.{ExprFault, IsExprOf, ArePresent}
 use Rattle.cel_types.specs.TypingFaults.{CheckFault, IsTyped}
+use Rattle.cost_bound.specs.Budgets.{nothing, sum_of}
+use Rattle.cost_bound.specs.declared.budget.Budget.{Budget}
 use Rattle.rbac_policy.specs.Costs.{Costs}
 use Rattle.rbac_match.specs.Rules.{SomeRuleFault}
 use Rattle.rbac_match.specs.declared.rule.Side.TheVariants.{Permission, Principal}
@@ -73,9 +75,9 @@ pub record HoldsPolicies (bytes : List ℕ) (policies : List (Entry text)) : Typ
   pub readable : Readable text (payloads rules_field.policies fs) read
   pub named : policies ≡ entries (map_of text read)
 
--- some of the policies have conditions of type bool, and this is the cost of these conditions together
-abbrev pub SomeCost : LimitsValue → List (Entry text) → ℕ → Type 0
-SomeCost limits [] cost = cost ≡ 0
-SomeCost limits ((name, parts) ∷ others) cost = SomeCost limits others cost
-    ⊎ ((condition : CelChecked) × (own rest : ℕ) × PolicyHas parts condition
-    × Costs limits condition own × SomeCost limits others rest × (cost ≡ own + rest))
+-- some of the policies have conditions of type bool, and this is what these conditions take together
+abbrev pub SomeCost : LimitsValue → List (Entry text) → Budget → Type 0
+SomeCost limits [] needs = needs ≡ nothing
+SomeCost limits ((name, parts) ∷ others) needs = SomeCost limits others needs
+    ⊎ ((condition : CelChecked) × (own rest : Budget) × PolicyHas parts condition
+    × Costs limits condition own × SomeCost limits others rest × (needs ≡ sum_of own rest))

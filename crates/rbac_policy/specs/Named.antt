@@ -11,7 +11,7 @@ use Rattle.rbac_policy.specs.declared.policy.NamedPolicy.{NamedPolicy}
 
 -- the program of a condition
 abbrev pub program_view : Condition → Program
-program_view c = record { code = code_view c.code; bound = c.bound }
+program_view c = record { code = code_view c.code; bound = c.needs.steps; visits = c.needs.visits }
 
 -- what a policy requires; its rules are in the list
 abbrev pub policy_view : List Token → NamedPolicy → Policy Program

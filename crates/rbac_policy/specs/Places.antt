@@ -18,7 +18,7 @@ use Rattle.proto_wire.specs.Values.{payloads}
 use Rattle.proto_wire.specs.declared.place.Step.{Step}
 use Rattle.proto_wire.specs.declared.placed.Fault.{Fault}
 use Rattle.proto_wire.specs.declared.refusal.Refusal.{Refusal}
-use Rattle.proto_wire.specs.declared.refusal.Refusal.TheVariants.{Memory, NotBool, TooCostly}
+use Rattle.proto_wire.specs.declared.refusal.Refusal.TheVariants.{Memory, NotBool}
 use Rattle.rbac_match.specs.Places as rules_of
 use Rattle.rbac_match.specs.Places.{IsAt, rule}
 use Rattle.rbac_match.specs.declared.rule.Side.{Side}
@@ -130,45 +130,48 @@ StepTo (in_rule side p) s q = (r : rules_of.Part) × rules_of.StepTo side p s r 
 abbrev pub FaultAt : List Step → Part → Refusal → Type 0
 FaultAt = places.FaultAt StepTo PartFault
 
--- a refusal that is of no part by itself: memory, or the cost of all conditions together
-abbrev pub OfNoPart : Refusal → Type 0
-OfNoPart e = (e ≡ Memory) ⊎ (e ≡ TooCostly)
+-- a fault that is of no part by itself: out of memory, or conditions that together take more than the budget has
+abbrev pub OfNoPart : (Path → Refusal → Type 0) → Fault → Type 0
+OfNoPart Over fault = (fault.refusal ≡ Memory) ⊎ Over (path_of fault.place) fault.refusal
 
--- a refusal that is of no part, or the fault at its place
-abbrev pub PlacedOr : Part → Fault → Type 0
-PlacedOr p fault = OfNoPart fault.refusal ⊎ FaultAt (path_of fault.place).steps p fault.refusal
+-- a fault that is of no part, or the fault at its place
+abbrev pub PlacedOr : (Path → Refusal → Type 0) → Part → Fault → Type 0
+PlacedOr Over p fault = OfNoPart Over fault ⊎ FaultAt (path_of fault.place).steps p fault.refusal
 
 -- the same for an expression that reads
-abbrev pub NodeOr : CelChecked → Fault → Type 0
-NodeOr x fault = OfNoPart fault.refusal ⊎ NodeWrongAt x (path_of fault.place) fault.refusal
+abbrev pub NodeOr : (Path → Refusal → Type 0) → CelChecked → Fault → Type 0
+NodeOr Over x fault = OfNoPart Over fault ⊎ NodeWrongAt x (path_of fault.place) fault.refusal
 
 -- the same for the payloads of a condition
-abbrev pub ConditionPartOr : ExprParts → Fault → Type 0
-ConditionPartOr parts fault = OfNoPart fault.refusal
+abbrev pub ConditionPartOr : (Path → Refusal → Type 0) → ExprParts → Fault → Type 0
+ConditionPartOr Over parts fault = OfNoPart Over fault
     ⊎ (ArePresent parts × ConditionWrongAt parts (path_of fault.place) fault.refusal)
 
 -- the same for a condition in the fields of a policy; the first step names its field
-abbrev pub ConditionOr : List Wire → Fault → Type 0
-ConditionOr fs fault = OfNoPart fault.refusal
+abbrev pub ConditionOr : (Path → Refusal → Type 0) → List Wire → Fault → Type 0
+ConditionOr Over fs fault = OfNoPart Over fault
     ⊎ (ArePresent (condition_in fs) × (inner : Path) × ConditionWrongAt (condition_in fs) inner fault.refusal
     × BeginsWith (condition_field (condition_in fs)) 0 inner (path_of fault.place))
 
 -- the same for one of the entries of a map of policies; the first step names it
-abbrev pub EntryOr : ℕ → Entry text → Fault → Type 0
-EntryOr position entry fault = OfNoPart fault.refusal
+abbrev pub EntryOr : (Path → Refusal → Type 0) → ℕ → Entry text → Fault → Type 0
+EntryOr Over position entry fault = OfNoPart Over fault
     ⊎ ((inner : Path) × BeginsWith rules_field.policies position inner (path_of fault.place)
     × FaultAt inner.steps (of_policy entry.1) fault.refusal)
 
--- the same for some entry
-abbrev pub PoliciesOr : List (Entry text) → Fault → Type 0
-PoliciesOr es fault = OfNoPart fault.refusal
-    ⊎ ((position : ℕ) × (entry : Entry text) × (inner : Path) × (slice_get es position ≡ Some entry)
+-- the fault is of one of the entries of a map of policies; the first step names it
+abbrev pub IsOfEntry : List (Entry text) → Fault → Type 0
+IsOfEntry es fault = (position : ℕ) × (entry : Entry text) × (inner : Path) × (slice_get es position ≡ Some entry)
     × BeginsWith rules_field.policies position inner (path_of fault.place)
-    × FaultAt inner.steps (of_policy entry.1) fault.refusal)
+    × FaultAt inner.steps (of_policy entry.1) fault.refusal
+
+-- a fault that is of no part, or of some entry
+abbrev pub PoliciesOr : (Path → Refusal → Type 0) → List (Entry text) → Fault → Type 0
+PoliciesOr Over es fault = OfNoPart Over fault ⊎ IsOfEntry es fault
 
 -- the same for the fields of a filter's rules: the fault is of the rules themselves, or of one of the policies
-abbrev pub FieldsOr : List Wire → Fault → Type 0
-FieldsOr fs fault = OfNoPart fault.refusal
+abbrev pub FieldsOr : (Path → Refusal → Type 0) → List Wire → Fault → Type 0
+FieldsOr Over fs fault = OfNoPart Over fault
     ⊎ (RulesFault fs fault.refusal × ((path_of fault.place).steps ≡ []))
     ⊎ ((read : List (Entry text)) × Readable text (payloads rules_field.policies fs) read
-    × PoliciesOr (entries (map_of text read)) fault)
+    × IsOfEntry (entries (map_of text read)) fault)

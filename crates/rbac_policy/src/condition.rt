@@ -1,6 +1,6 @@
 //! Conditions: their admission and their runs.
 
-ghost use Rattle.std.specs.Prelude.{◌≡◌, ◌≢◌, ◌≤◌, ℕ, List, IfErr, IfOk, OnOk, Some};
+ghost use Rattle.std.specs.Prelude.{◌≡◌, ◌≢◌, ℕ, List, IfErr, IfOk, OnOk, Some};
 ghost use Rattle.cel_tree.specs.Checked.{CelChecked};
 ghost use Rattle.cel_tree.specs.Message.{ExprParts, IsExprOf};
 ghost use Rattle.cel_tree.specs.View.{checked_view};
@@ -12,6 +12,8 @@ ghost use Rattle.cel_check.specs.Places.{id_of};
 ghost use Rattle.proto_wire.specs.Places.{FaultOr, path_of};
 ghost use Rattle.proto_wire.specs.declared.refusal.Refusal.TheVariants.{NotBool};
 ghost use Rattle.cel_value.specs.View.{answer_view};
+ghost use Rattle.cost_bound.specs.Budgets.{Covers};
+ghost use Rattle.rbac_policy.specs.Budget.{OverIn};
 ghost use Rattle.rbac_policy.specs.Condition.{IsProgramOf, MemoryOrSteps, came_true};
 ghost use Rattle.rbac_policy.specs.Named.{program_view};
 ghost use Rattle.rbac_policy.specs.Places.{NodeOr};
@@ -31,23 +33,23 @@ use cel_tree::{Checked, fault_of_node};
 use cel_types::Typed;
 use cel_value::{Answer, CelType, Value};
 use code_verifier::{VerifyFault, verify};
-use cost_bound::bound;
+use cost_bound::{Budget, bound};
 use machine_code::{Code, Verified};
 use proto_wire::{Fault, Refusal};
 use stack_machine::{RunError, run};
 use std::alloc::Global;
 use std::fmt;
 
-/// An admitted condition: its code, and how many steps the code may take.
+/// An admitted condition: its code, and what it takes of a budget. Its code may take these steps.
 #[derive(Drop)]
 pub(crate) struct Condition {
     pub code: Verified,
-    pub bound: u64,
+    pub needs: Budget,
 }
 
 impl fmt::Debug for Condition {
     fn fmt<W: fmt::Write>(&self, f: &mut fmt::Formatter<W>) -> fmt::Result {
-        write!(f, "a condition of at most {} steps", self.bound)
+        write!(f, "a condition of at most {} steps", self.needs.steps)
     }
 }
 
@@ -56,9 +58,9 @@ impl Condition {
     pub(crate) fn is_met(&self, alloc: Global, request: &Request) -> Result<bool, RunError>
         ensures found { IfOk result (λ met. RunsAs request.now (program_view self.now) met) }
         ensures fault { IfErr result (MemoryOrSteps
-            (RunsOut (code_view self.now.code) request.now self.now.bound)) }
+            (RunsOut (code_view self.now.code) request.now self.now.needs.steps)) }
     {
-        let outcome = run(alloc, &self.code, request, self.bound)?;
+        let outcome = run(alloc, &self.code, request, self.needs.steps)?;
         Ok(is_true(&outcome.result))
     }
 
@@ -67,13 +69,13 @@ impl Condition {
         ensures found { IfOk result (IsReasonOf (EndsWith request.now) (TakesOf request.now)
             (program_view self.now)) }
         ensures fault { IfErr result (MemoryOrSteps
-            (RunsOut (code_view self.now.code) request.now self.now.bound)) }
+            (RunsOut (code_view self.now.code) request.now self.now.needs.steps)) }
     {
-        let outcome = run(alloc, &self.code, request, self.bound)?;
+        let outcome = run(alloc, &self.code, request, self.needs.steps)?;
         if is_true(&outcome.result) {
             return Ok(Reason::ConditionTrue {
                 steps: outcome.steps,
-                bound: self.bound,
+                bound: self.needs.steps,
             });
         }
         match &outcome.result {
@@ -90,20 +92,20 @@ fn is_true(answer: &Answer) -> bool
     matches!(answer, Ok(Value::Bool(true)))
 }
 
-/// The condition of the expression, for requests within the limits; it may take at most `left` steps. The
+/// The condition of the expression, for requests within the limits; it may take what is left of a budget. The
 /// expression was read from some parts, so a code has room for it, and the code is verified. Its tree is not
-/// kept. The place of a fault names a node.
+/// kept. The place of a fault names a node, or the expression itself if it takes more than is left.
 pub(crate) fn condition_of(
     alloc: Global,
     checked: &Checked,
     limits: &Limits,
-    left: u64,
+    left: Budget,
 ) -> Result<Condition, Fault>
     requires { (parts : ExprParts) × IsExprOf parts (checked_view checked.now) }
     ensures found { IfOk result (λ c. IsProgramOf limits.now (checked_view checked.now) (program_view c)) }
-    ensures cheap { IfOk result (λ c. c.bound ≤ left) }
+    ensures covered { IfOk result (λ c. Covers left c.needs) }
     ensures fault { IfErr result (FaultOr (ExpressionFault (checked_view checked.now) limits.now left)) }
-    ensures place { IfErr result (NodeOr (checked_view checked.now)) }
+    ensures place { IfErr result (NodeOr (OverIn limits.now left (checked_view checked.now)) (checked_view checked.now)) }
 {
     let typed = check_at(alloc, checked)?;
     enforced(alloc, id_of(&checked.tree), &typed, limits, left)
@@ -115,23 +117,23 @@ fn enforced(
     root: i64,
     typed: &Typed<'_>,
     limits: &Limits,
-    left: u64,
+    left: Budget,
 ) -> Result<Condition, Fault>
     requires { (parts : ExprParts) × (x : CelChecked) × IsExprOf parts x
         × IsElaborated x (typed_view typed.now) }
     ensures found { (x : CelChecked) → IsElaborated x (typed_view typed.now)
         → IfOk result (λ c. IsProgramOf limits.now x (program_view c)) }
-    ensures cheap { IfOk result (λ c. c.bound ≤ left) }
+    ensures covered { IfOk result (λ c. Covers left c.needs) }
     ensures fault { (x : CelChecked) → IsElaborated x (typed_view typed.now)
         → IfErr result (FaultOr (ExpressionFault x limits.now left)) }
     ensures place { (x : CelChecked) → IsElaborated x (typed_view typed.now) → id_of x.tree ≡ root
-        → IfErr result (NodeOr x) }
+        → IfErr result (NodeOr (OverIn limits.now left x) x) }
 {
     require_bool(root, typed.root.cel_type())?;
-    let steps = bound(alloc, typed, limits, left)?;
+    let needs = bound(alloc, typed, limits, left)?;
     let code = compile(alloc, typed)?;
     let code = verified(alloc, code)?;
-    Ok(Condition { code, bound: steps })
+    Ok(Condition { code, needs })
 }
 
 /// Refuses every type except bool, at the node with this id.

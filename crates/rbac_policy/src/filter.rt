@@ -3,7 +3,7 @@
 ghost use Rattle.std.specs.Prelude.{◌≡◌, IsTrue, map, option_map, slice_get, string_bytes};
 ghost use Rattle.std.specs.FinMap.{is_sorted};
 ghost use Rattle.attributes.specs.Headers.{name_cmp};
-ghost use Rattle.rbac_policy.specs.Enforced.{bounds_of};
+ghost use Rattle.rbac_policy.specs.Enforced.{policies_need};
 ghost use Rattle.rbac_policy.specs.Named.{named_views, policy_view};
 ghost use Rattle.rbac_policy.specs.private.PolicyIndex.{IsPolicyIndex};
 
@@ -58,7 +58,7 @@ pub(crate) struct FilterRules {
     policy_index: PolicyIndex,
     bound: u64,
     ghost ordered: { IsTrue (is_sorted name_cmp (named_views list policies.items)) },
-    ghost bounded: { bound ≡ bounds_of (named_views list policies.items) },
+    ghost bounded: { bound ≡ (policies_need (named_views list policies.items)).steps },
     ghost indexed: { IsPolicyIndex policy_index (map (policy_view list) policies.items) },
 }
 
@@ -76,7 +76,7 @@ impl FilterRules {
         bound: u64,
     ) -> FilterRules
         requires ordered { IsTrue (is_sorted name_cmp (named_views list policies.items)) }
-        requires bounded { bound ≡ bounds_of (named_views list policies.items) }
+        requires bounded { bound ≡ (policies_need (named_views list policies.items)).steps }
         requires indexed { IsPolicyIndex policy_index (map (policy_view list) policies.items) }
         ensures { filter_rules_view result ≡ record {
           action = action;

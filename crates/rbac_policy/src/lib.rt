@@ -2,7 +2,6 @@
 #![tactic(auto)]
 
 mod admission;
-mod budget;
 mod causes;
 mod condition;
 mod decide;
@@ -18,10 +17,9 @@ mod trials;
 mod written;
 
 pub use admission::{admit, admit_at};
-pub use budget::{OverBudget, over_budget};
 pub use causes::PolicyCauses;
 pub use filter::{Admitted, Verdict};
-pub use place::{place_of, place_of_fault};
+pub use place::place_of_fault;
 pub use reason::Reason;
 pub use trials::Trial;
 pub use written::{WrittenCondition, written_condition};

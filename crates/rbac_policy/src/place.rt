@@ -1,11 +1,9 @@
 //! The place of a fault in a filter's message in words, for readers of a refusal. No contract mentions the words.
 
-use crate::admission::admit_at;
 use crate::numbers::{
     ACTION, AUDIT_LOGGING_OPTIONS, CHECKED_CONDITION, EXPR, PERMISSIONS, POLICIES, PRINCIPALS,
     REFERENCE_MAP, RULES, TYPE_MAP,
 };
-use attributes::Limits;
 use proto_wire::{
     Fault, Field, MapEntry, Refusal, Step, len_of, payloads_of, read_entries, read_fields,
     read_parts,
@@ -28,25 +26,10 @@ const INTO_CHECKED: usize = 4;
 /// How many steps lead from a filter to a permission or a principal.
 const STEPS_TO_A_RULE: usize = 3;
 
-/// The part of the filter's message that has this fault, as `place_of_fault` names it. The filter is read again.
-/// `None` if no part can be named, or if the filter does not have this fault.
-pub fn place_of(
-    alloc: Global,
-    bytes: &[u8],
-    refusal: Refusal,
-    limits: &Limits,
-    budget: u64,
-) -> Option<String> {
-    let fault = admit_at(alloc, bytes, limits, budget).err()?;
-    if fault.refusal != refusal {
-        return None;
-    }
-    place_of_fault(alloc, bytes, &fault)
-}
-
 /// The part of the filter's message that has the fault with which `admit_at` refused it, such as
 /// `policy "p": permissions[0].and_rules.rules[2].header.name` or `policy "p": checked_condition.expr, node 5`.
-/// Control characters of the name are escaped. For `TooCostly` it is the condition at which the budget is exceeded.
+/// Control characters of the name are escaped. If the conditions take more than the budget has, it is the first
+/// condition with which their sum is above it.
 /// `None` if no part can be named.
 pub fn place_of_fault(alloc: Global, bytes: &[u8], fault: &Fault) -> Option<String> {
     fault.place.step(0)?;

@@ -1,6 +1,6 @@
 //! Policies, and the reading of their messages.
 
-ghost use Rattle.std.specs.Prelude.{◌≡◌, ◌≢◌, ◌≤◌, ◌+◌, ◌⊎◌, ◌++◌, ◌∷◌, [], List, T, Ok, IfOk, IfErr, IsErrAnd, OnOk, MatchBool, MatchResult, length, map, option_map};
+ghost use Rattle.std.specs.Prelude.{◌≡◌, ◌≢◌, ◌⊎◌, ◌++◌, ◌∷◌, [], List, T, Ok, IfOk, IfErr, IsErrAnd, OnOk, MatchBool, MatchResult, length, map, option_map};
 ghost use Rattle.std.specs.FinMap.{is_sorted};
 ghost use Rattle.std.specs.String.{string_bytes};
 ghost use Rattle.attributes.specs.Headers.{name_cmp};
@@ -13,7 +13,9 @@ ghost use Rattle.cel_tree.specs.Places.{PlacedOr as Placed};
 ghost use Rattle.cel_read.specs.Places.{ExprFaultAt};
 ghost use Rattle.proto_wire.specs.Merge.{parts_view};
 ghost use Rattle.rbac_match.specs.Tokens.{GoesOn, Token};
-ghost use Rattle.rbac_policy.specs.Enforced.{bound_of, bounds_of};
+ghost use Rattle.cost_bound.specs.Budgets.{Covers};
+ghost use Rattle.rbac_policy.specs.Budget.{OverInCondition, OverInEntry, OverInFields, OverInPolicies, OverInPolicy};
+ghost use Rattle.rbac_policy.specs.Enforced.{policies_need, program_needs};
 ghost use Rattle.rbac_policy.specs.Keys.{policy_field};
 ghost use Rattle.cel_tree.specs.Message.{ExprFault, IsExprOf, ArePresent};
 ghost use Rattle.cel_tree.specs.View.{checked_view};
@@ -31,6 +33,7 @@ use crate::numbers::{CHECKED_CONDITION, CONDITION, EXPR, PERMISSIONS, POLICIES, 
 use attributes::Limits;
 use cel_read::{read_checked_at, read_unchecked_at};
 use cel_tree::Checked;
+use cost_bound::Budget;
 use proto_wire::{
     Fault, Field, MapEntry, Refusal, has_payload, inside_field, payloads_of, read_message_at,
 };
@@ -48,44 +51,46 @@ pub(crate) struct NamedPolicy {
 }
 
 impl NamedPolicy {
-    /// How many steps the policy's condition may take.
-    pub(crate) fn bound(&self) -> u64
-        ensures { result ≡ bound_of (option_map program_view self.now.condition) }
+    /// What the policy's condition takes of a budget.
+    pub(crate) fn needs(&self) -> Budget
+        ensures { result ≡ program_needs (option_map program_view self.now.condition) }
     {
         match &self.condition {
-            None => 0,
-            Some(condition) => condition.bound,
+            None => Budget::nothing(),
+            Some(condition) => condition.needs,
         }
     }
 }
 
 /// Reads the policies of the map's entries, which ascend by name, for requests within the limits, and appends
-/// their rules to the list. Their conditions together may take at most `budget` steps. Also gives how many
-/// steps they may take. The place of a fault begins with the policy, by its index.
+/// their rules to the list. Their conditions together may take what is left of a budget, which is `left` before the
+/// call. Also gives how many steps they may take. After the call, `left` is what these policies leave; or those before
+/// a fault, whose place begins with the policy that has it, by its index.
 pub(crate) fn read_policies(
     list: &mut RuleList,
     named: &[MapEntry<'_, &str>],
     limits: &Limits,
-    budget: u64,
+    left: &mut Budget,
 ) -> Result<(Vec<NamedPolicy>, u64), Fault>
     requires { T (is_sorted name_cmp (names_view named.now)) }
     ensures found { IfOk result (λ r. Held text (IsEnforced limits.now)
         (names_view named.now) (named_views list.new r.0.items)) }
-    ensures cost { IfOk result (λ r. r.1 ≡ bounds_of (named_views list.new r.0.items)) }
-    ensures cheap { IfOk result (λ r. r.1 ≤ budget) }
+    ensures cost { IfOk result (λ r. r.1 ≡ (policies_need (named_views list.new r.0.items)).steps) }
+    ensures covered { IfOk result (λ r. Covers left.old (policies_need (named_views list.new r.0.items))) }
     ensures fault { IfErr result (FaultOr (λ e.
         SomeValueFault text PolicyFault (names_view named.now) e
-        ⊎ ConditionsFault (names_view named.now) limits.now budget e)) }
-    ensures place { IfErr result (PoliciesOr (names_view named.now)) }
+        ⊎ ConditionsFault (names_view named.now) limits.now left.old e)) }
+    ensures place { IfErr result (PoliciesOr
+        (OverInPolicies limits.now left.old left.new (names_view named.now)) (names_view named.now)) }
 {
+    let budget = *left;
     let mut policies = Vec::with_capacity(list.alloc(), named.len())?;
-    let mut spent = 0;
     for entry in named {
-        let policy = read_entry(list, entry, policies.len(), limits, budget - spent)?;
-        spent += policy.bound();
+        let policy = read_entry(list, entry, policies.len(), limits, *left)?;
+        *left = left.less(policy.needs());
         policies.push(policy)?;
     }
-    Ok((policies, spent))
+    Ok((policies, budget.steps - left.steps))
 }
 
 /// Reads the policy of an entry as `read_policy` does; it has this number in the order of names.
@@ -94,17 +99,19 @@ fn read_entry(
     entry: &MapEntry<'_, &str>,
     number: usize,
     limits: &Limits,
-    left: u64,
+    left: Budget,
 ) -> Result<NamedPolicy, Fault>
     ensures named { IfOk result (λ policy. string_bytes policy.name ≡ entry.now.0.now) }
     ensures found { IfOk result (λ policy. (more : List Token) → IsEnforced limits.now
         (parts_view entry.now.1.items) (policy_view (list.new ++ more) policy)) }
     ensures kept { OnOk result (GoesOn list.old list.new) }
-    ensures cheap { IfOk result (λ policy. bound_of (option_map program_view policy.condition)
-        ≤ left) }
+    ensures covered { IfOk result (λ policy. Covers left
+        (program_needs (option_map program_view policy.condition))) }
     ensures fault { IfErr result (FaultOr (λ e. PolicyFault (parts_view entry.now.1.items) e
         ⊎ ConditionsFault ((entry.now.0.now, parts_view entry.now.1.items) ∷ []) limits.now left e)) }
-    ensures place { IfErr result (EntryOr number (entry.now.0.now, parts_view entry.now.1.items)) }
+    ensures place { IfErr result (EntryOr
+        (OverInEntry limits.now left number (entry.now.0.now, parts_view entry.now.1.items))
+        number (entry.now.0.now, parts_view entry.now.1.items)) }
 {
     inside_field(
         read_policy(list, entry.0, &entry.1, limits, left),
@@ -113,25 +120,26 @@ fn read_entry(
     )
 }
 
-/// Reads a policy from its parts, for requests within the limits; its condition may take at most `left`
-/// steps. Appends its rules to the list, where they stay if it grows. The place of a fault is the part of the
-/// policy that has it; for `TooCostly` it is the condition.
-pub(crate) fn read_policy(
+/// Reads a policy from its parts, for requests within the limits; its condition may take what is left of a
+/// budget. Appends its rules to the list, where they stay if it grows. The place of a fault is the part of the
+/// policy that has it; it is the condition's expression if this takes more than is left.
+fn read_policy(
     list: &mut RuleList,
     name: &str,
     parts: &[&[u8]],
     limits: &Limits,
-    left: u64,
+    left: Budget,
 ) -> Result<NamedPolicy, Fault>
     ensures named { IfOk result (λ policy. string_bytes policy.name ≡ name.now) }
     ensures found { IfOk result (λ policy. (more : List Token) → IsEnforced limits.now
         (parts_view parts.now) (policy_view (list.new ++ more) policy)) }
     ensures kept { OnOk result (GoesOn list.old list.new) }
-    ensures cheap { IfOk result (λ policy. bound_of (option_map program_view policy.condition)
-        ≤ left) }
+    ensures covered { IfOk result (λ policy. Covers left
+        (program_needs (option_map program_view policy.condition))) }
     ensures fault { IfErr result (FaultOr (λ e. PolicyFault (parts_view parts.now) e
         ⊎ ConditionsFault ((name.now, parts_view parts.now) ∷ []) limits.now left e)) }
-    ensures place { IfErr result (PlacedOr (of_policy (parts_view parts.now))) }
+    ensures place { IfErr result (PlacedOr (OverInPolicy limits.now left (parts_view parts.now))
+        (of_policy (parts_view parts.now))) }
 {
     let alloc = list.alloc();
     let fields = read_message_at(alloc, parts, &POLICY_KEYS)?;
@@ -171,14 +179,15 @@ fn condition_at(
     alloc: Global,
     fields: &[Field<'_>],
     limits: &Limits,
-    left: u64,
+    left: Budget,
 ) -> Result<Option<Condition>, Fault>
     ensures found { IfOk result (λ found. HasProgram limits.now
         (condition_in (map field_view fields.now)) (option_map program_view found)) }
-    ensures cheap { IfOk result (λ found. bound_of (option_map program_view found) ≤ left) }
+    ensures covered { IfOk result (λ found. Covers left (program_needs (option_map program_view found))) }
     ensures fault { IfErr result (FaultOr (λ e. ArePresent (condition_in (map field_view fields.now))
         × ConditionFault (condition_in (map field_view fields.now)) limits.now left e)) }
-    ensures place { IfErr result (ConditionOr (map field_view fields.now)) }
+    ensures place { IfErr result (ConditionOr (OverInFields limits.now left (map field_view fields.now))
+        (map field_view fields.now)) }
 {
     match read_condition(alloc, fields, limits, left) {
         Ok(condition) => Ok(condition),
@@ -201,14 +210,16 @@ fn read_condition(
     alloc: Global,
     fields: &[Field<'_>],
     limits: &Limits,
-    left: u64,
+    left: Budget,
 ) -> Result<Option<Condition>, Fault>
     ensures found { IfOk result (λ found. HasProgram limits.now
         (condition_in (map field_view fields.now)) (option_map program_view found)) }
-    ensures cheap { IfOk result (λ found. bound_of (option_map program_view found) ≤ left) }
+    ensures covered { IfOk result (λ found. Covers left (program_needs (option_map program_view found))) }
     ensures fault { IfErr result (FaultOr (λ e. ArePresent (condition_in (map field_view fields.now))
         × ConditionFault (condition_in (map field_view fields.now)) limits.now left e)) }
-    ensures place { IfErr result (ConditionPartOr (condition_in (map field_view fields.now))) }
+    ensures place { IfErr result (ConditionPartOr
+        (OverInCondition limits.now left (condition_in (map field_view fields.now)))
+        (condition_in (map field_view fields.now))) }
 {
     if !has_condition(fields) {
         return Ok(None);

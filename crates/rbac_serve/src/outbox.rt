@@ -1,7 +1,8 @@
 //! The bytes that wait to be sent on a stream.
-ghost use Rattle.std.specs.Prelude.{◌≡◌, ◌≢◌, ◌≤◌, ◌<◌, ◌↔◌, ◌⊎◌, ◌++◌, [], drop, length, vec_len, IsTrue, OnErr, OnOk};
+ghost use Rattle.std.specs.Prelude.{◌≡◌, ◌≢◌, ◌≤◌, ◌<◌, ◌↔◌, ◌⊎◌, ◌++◌, [], drop, length, IsTrue, OnErr, OnOk};
 ghost use Rattle.rbac_serve.specs.Sending.{Sends};
 
+use byte_queue::ByteQueue;
 use std::alloc::{AllocError, Global};
 use std::io::{self, ErrorKind, Write};
 use std::marker::Model;
@@ -22,19 +23,15 @@ pub enum Sent {
 /// The bytes that wait to be sent on a stream. They are sent in the order in which they were put.
 #[derive(Drop)]
 pub struct Outbox {
-    bytes: Vec<u8>,
-    // how many of them were sent
-    sent: usize,
+    queue: ByteQueue,
 }
 
 impl Model for Outbox {
-    ghost use Rattle.std.specs.Prelude.{◌≤◌, ℕ, List, drop, vec_len};
+    ghost use Rattle.std.specs.Prelude.{ℕ, List};
 
     ghost Value = { List ℕ };
 
-    ghost view = { λ outbox. drop outbox.sent outbox.bytes.items };
-
-    ghost invariant = { λ outbox. outbox.sent ≤ vec_len outbox.bytes };
+    ghost view = { λ outbox. outbox.queue.waiting };
 }
 
 impl Outbox {
@@ -43,8 +40,7 @@ impl Outbox {
         ensures { result ≡ [] }
     {
         Outbox {
-            bytes: Vec::new(alloc),
-            sent: 0,
+            queue: ByteQueue::new(alloc),
         }
     }
 
@@ -52,28 +48,30 @@ impl Outbox {
     pub fn of(bytes: Vec<u8>) -> Outbox
         ensures { result ≡ bytes.items }
     {
-        Outbox { bytes, sent: 0 }
+        Outbox {
+            queue: ByteQueue::of(bytes),
+        }
     }
 
     /// How many bytes wait.
     pub fn len(&self) -> usize
         ensures { result ≡ length self.now }
     {
-        self.bytes.len() - self.sent
+        self.queue.len()
     }
 
     /// Whether no bytes wait.
     pub fn is_empty(&self) -> bool
         ensures { IsTrue result ↔ (self.now ≡ []) }
     {
-        self.len() == 0
+        self.queue.is_empty()
     }
 
     /// The bytes that wait.
     pub fn rest(&self) -> &[u8]
         ensures { result.now ≡ self.now }
     {
-        &self.bytes[self.sent..]
+        self.queue.rest()
     }
 
     /// Puts bytes after those that wait. After an error all is as before the call.
@@ -81,7 +79,7 @@ impl Outbox {
         ensures whole { OnOk result (self.new ≡ self.old ++ bytes.now) }
         ensures fault { OnErr result (self.new ≡ self.old) }
     {
-        append(&mut self.bytes, &mut self.sent, bytes)
+        self.queue.put(bytes, &[])
     }
 
     /// The same with bytes of the caller's, which are not copied if no others wait.
@@ -100,8 +98,7 @@ impl Outbox {
     pub fn clear(&mut self)
         ensures { self.new ≡ [] }
     {
-        self.bytes.clear();
-        self.sent = 0;
+        self.queue.clear();
     }
 
     /// Writes once, if bytes wait. What the stream took, and after it what waits, is what waited before.
@@ -111,7 +108,7 @@ impl Outbox {
         ensures part { result ≡ Sent.Part → length self.new < length self.old }
         ensures none { (result ≡ Sent.Blocked) ⊎ (result ≡ Sent.Lost) → self.new ≡ self.old }
     {
-        let rest = &self.bytes[self.sent..];
+        let rest = self.queue.rest();
         if rest.is_empty() {
             return Sent::All;
         }
@@ -129,12 +126,11 @@ impl Outbox {
         ensures is { ((result ≡ Sent.All) × (self.new ≡ []))
             ⊎ ((result ≡ Sent.Part) × (self.new ≢ []) × (length self.new < length self.old)) }
     {
-        self.sent += count;
-        if self.sent < self.bytes.len() {
-            return Sent::Part;
+        self.queue.take(count);
+        if self.queue.is_empty() {
+            return Sent::All;
         }
-        self.clear();
-        Sent::All
+        Sent::Part
     }
 }
 
@@ -146,23 +142,4 @@ fn ended_by(error: &io::Error) -> Sent
         ErrorKind::WouldBlock | ErrorKind::Interrupted => Sent::Blocked,
         _ => Sent::Lost,
     }
-}
-
-/// Puts bytes after those from a place on. Once most of the earlier bytes were sent, these are dropped.
-fn append(bytes: &mut Vec<u8>, at: &mut usize, more: &[u8]) -> Result<(), AllocError>
-    requires { at.old ≤ vec_len bytes.old }
-    ensures within { at.new ≤ vec_len bytes.new }
-    ensures found { OnOk result (drop at.new bytes.new.items ≡ drop at.old bytes.old.items ++ more.now) }
-    ensures fault { OnErr result ((at.new ≡ at.old) × (bytes.new.items ≡ bytes.old.items)) }
-{
-    if *at <= bytes.len() / 2 {
-        return bytes.extend_from_slice(more);
-    }
-    let rest = &bytes[*at..];
-    let mut both = Vec::with_capacity(*bytes.allocator(), rest.len().saturating_add(more.len()))?;
-    both.extend_from_slice(rest)?;
-    both.extend_from_slice(more)?;
-    *bytes = both;
-    *at = 0;
-    Ok(())
 }

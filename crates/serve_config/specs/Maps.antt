@@ -1,11 +1,12 @@
 -- Which fields of a front proxy hold the request of its client, and which paths are judged, by the members of a JSON object.
-use Rattle.std.specs.Prelude.{◌≡◌, ℕ, List, [], ◌∷◌, Option, Some, None, codes, filter_map, map, option_map, string_bytes}
+use Rattle.std.specs.Prelude.{◌≡◌, ℕ, List, [], ◌∷◌, Option, Some, None, IfSome, codes, filter_map, map, option_map, string_bytes}
 use Rattle.std.specs.List.{AllZip}
 use Rattle.std.specs.declared.alloc.Global.{Global}
 use Rattle.std.specs.declared.string.String.{String}
 use Rattle.serde_json.specs.Data.{Data, array, string}
 use Rattle.serde_json.specs.Find.{get}
 use Rattle.serde_json.specs.View.{items_of}
+use Rattle.program_texts.specs.Members.{HasOnly}
 use Rattle.head_map.specs.declared.fact.Fact.{Fact}
 use Rattle.head_map.specs.declared.fact.Fact.TheVariants as facts
 use Rattle.head_map.specs.declared.fact.NamedFact.{NamedFact}
@@ -48,11 +49,19 @@ valued d member = option_map (λ value. (member, value)) (member_of (member_name
 abbrev pub present : Option Data → List Member → List (Member × Data)
 present d = filter_map (valued d)
 
+-- the names of an object that names a field and a place from the right
+abbrev pub place_names : List (List ℕ)
+place_names = codes "field" ∷ codes "hops" ∷ []
+
+-- the names of an object that names a field and a text
+abbrev pub text_names : List (List ℕ)
+text_names = codes "field" ∷ codes "is" ∷ []
+
 -- the value names the field that holds the fact; with a place from the right, or a text, it is an object
 abbrev pub NamesField : Data → String Global → Fact → Type 0
 NamesField d field (facts.ForwardedFor place) =
-    (get (codes "field") d ≡ Some (string (string_bytes field))) × IsNumberFrom 1 1000 1 (get (codes "hops") d) place
-NamesField d field (facts.Mtls is) = (get (codes "field") d ≡ Some (string (string_bytes field)))
+    HasOnly place_names d × (get (codes "field") d ≡ Some (string (string_bytes field))) × IsNumberFrom 1 1000 1 (get (codes "hops") d) place
+NamesField d field (facts.Mtls is) = HasOnly text_names d × (get (codes "field") d ≡ Some (string (string_bytes field)))
     × (get (codes "is") d ≡ Some (string (string_bytes is)))
 NamesField d field fact = d ≡ string (string_bytes field)
 
@@ -67,6 +76,7 @@ AreRequired (Some d) names = d ≡ array (items_of (map string names))
 
 -- the mapping that the members `map` and `require` declare; it keeps all rules of mappings
 pub record IsMappingBy (d : Option Data) (m : Mapping) : Type 0 where
+  pub names : IfSome (member_of (codes "map") d) (HasOnly (map member_name every_member))
   pub named : AllZip IsNamedBy (present (member_of (codes "map") d) every_member) (mapping_view m).named
   pub required : AreRequired (member_of (codes "require") d) (mapping_view m).required
   pub is : IsMapping (mapping_view m)

@@ -1,11 +1,13 @@
 //! An object of the configuration, and its members by their names.
-ghost use Rattle.std.specs.Prelude.{◌≡◌, ◌↔◌, Some, IfOk, IsSomeAnd, IsTrue, option_map};
+ghost use Rattle.std.specs.Prelude.{◌≡◌, ◌↔◌, ◌⊎◌, Some, IfErr, IfOk, IfSome, IsSomeAnd, IsTrue, OnOk, map, option_map};
 ghost use Rattle.std.specs.Range.{range_inclusive_end, range_inclusive_start};
 ghost use Rattle.serde_json.specs.View.{view};
+ghost use Rattle.program_texts.specs.Members.{HasOnly};
 ghost use Rattle.serve_config.specs.Members.{IsFlag, IsNumberFrom, IsOrNull, IsPath, IsPathText, data_of, member_of};
 
 use crate::fault::ServeConfigFault;
 use crate::numbers::number_or;
+use program_texts::{InvalidValue, is_among, require_names};
 use serde_json::Value;
 use std::alloc::{AllocError, Global};
 use std::ops::RangeInclusive;
@@ -30,16 +32,14 @@ impl<'a> Object<'a> {
         value: &'a Value,
         names: &[&str],
     ) -> Result<Object<'a>, ServeConfigFault>
-        ensures { IfOk result (λ o. data_of o ≡ Some (view value.now)) }
+        ensures found { IfOk result (λ o. data_of o ≡ Some (view value.now)) }
+        ensures names { OnOk result (HasOnly (map (λ n. n.now) names.now) (view value.now)) }
     {
         let whole = Object {
             alloc,
             value: Some(value),
             name: "",
         };
-        if !value.is_object() {
-            return Err(whole.refuse("configuration", "is not an object"));
-        }
         whole.require_names(names)?;
         Ok(whole)
     }
@@ -50,16 +50,14 @@ impl<'a> Object<'a> {
         name: &'a str,
         names: &[&str],
     ) -> Result<Object<'a>, ServeConfigFault>
-        ensures { IfOk result (λ o. data_of o ≡ member_of name.now (data_of self.entry)) }
+        ensures found { IfOk result (λ o. data_of o ≡ member_of name.now (data_of self.entry)) }
+        ensures names { OnOk result (IfSome (member_of name.now (data_of self.entry)) (HasOnly (map (λ n. n.now) names.now))) }
     {
         let object = Object {
             alloc: self.alloc,
             value: self.get(name),
             name,
         };
-        if !object.value.is_none_or(|value| value.is_object()) {
-            return Err(self.refuse(name, "is not an object"));
-        }
         object.require_names(names)?;
         Ok(object)
     }
@@ -71,7 +69,8 @@ impl<'a> Object<'a> {
         path: &'a str,
         names: &[&str],
     ) -> Result<Object<'a>, ServeConfigFault>
-        ensures { IfOk result (λ o. data_of o ≡ Some (view value.now)) }
+        ensures found { IfOk result (λ o. data_of o ≡ Some (view value.now)) }
+        ensures names { OnOk result (HasOnly (map (λ n. n.now) names.now) (view value.now)) }
     {
         let object = Object {
             alloc: self.alloc,
@@ -88,7 +87,8 @@ impl<'a> Object<'a> {
         name: &'a str,
         names: &[&str],
     ) -> Result<Option<Object<'a>>, ServeConfigFault>
-        ensures { IfOk result (IsOrNull (λ d o. data_of o ≡ Some d) (member_of name.now (data_of self.entry))) }
+        ensures { IfOk result (IsOrNull (λ d o. (data_of o ≡ Some d) × HasOnly (map (λ n. n.now) names.now) d)
+            (member_of name.now (data_of self.entry))) }
     {
         match self.get(name) {
             None | Some(Value::Null) => Ok(None),
@@ -97,18 +97,32 @@ impl<'a> Object<'a> {
         }
     }
 
-    /// Refuses a member whose name is not among these.
-    fn require_names(self, names: &[&str]) -> Result<(), ServeConfigFault> {
-        let Some(members) = self.value.and_then(Value::as_object) else {
+    /// Refuses a value that is no object, or that has a member whose name is not among these.
+    fn require_names(self, names: &[&str]) -> Result<(), ServeConfigFault>
+        ensures found { OnOk result (IfSome (data_of self.entry) (HasOnly (map (λ n. n.now) names.now))) }
+        ensures fault { IfErr result (λ e. (e ≡ ServeConfigFault.Memory)
+            ⊎ IsSomeAnd (data_of self.entry) (λ d. ¬ HasOnly (map (λ n. n.now) names.now) d)) }
+    {
+        let Some(value) = self.value else {
             return Ok(());
         };
-        for key in members.keys() {
-            let name = key.as_str();
-            if !names.contains(&name) {
-                return Err(self.unknown(name, names)?);
-            }
+        match require_names(value, names) {
+            Ok(()) => Ok(()),
+            Err(InvalidValue) => Err(self.bad_object(value, names)?),
         }
-        Ok(())
+    }
+
+    /// The fault of a value that is no object, or that has a member whose name is not among these.
+    fn bad_object(self, value: &Value, names: &[&str]) -> Result<ServeConfigFault, AllocError> {
+        if let Some(name) = first_unknown(value, names) {
+            return self.unknown(name, names);
+        }
+        let whole = Object { name: "", ..self };
+        let name = match self.name {
+            "" => "configuration",
+            name => name,
+        };
+        Ok(whole.refuse(name, "is not an object"))
     }
 
     /// The fault of a member whose name is not among these.
@@ -219,6 +233,17 @@ impl<'a> Object<'a> {
             Some(_) => Err(self.refuse(name, "is not true or false")),
         }
     }
+}
+
+/// The first name of an object's members that is not among these.
+fn first_unknown<'v>(value: &'v Value, names: &[&str]) -> Option<&'v str> {
+    for key in value.as_object()?.keys() {
+        let name = key.as_str();
+        if !is_among(name, names) {
+            return Some(name);
+        }
+    }
+    None
 }
 
 /// Whether a text may be a path: it is not empty and has no NUL.

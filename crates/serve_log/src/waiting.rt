@@ -1,7 +1,8 @@
 //! The lines that wait to be written to a log.
-ghost use Rattle.std.specs.Prelude.{◌≡◌, ◌≢◌, ◌≤◌, ◌<◌, ◌↔◌, ◌++◌, [], drop, length, vec_len, IsTrue, OnErr, OnOk};
+ghost use Rattle.std.specs.Prelude.{◌≡◌, ◌≢◌, ◌≤◌, ◌<◌, ◌↔◌, ◌++◌, [], drop, length, IsTrue, OnErr, OnOk};
 ghost use Rattle.serve_log.specs.Writing.{Writes, line_of};
 
+use byte_queue::ByteQueue;
 use std::alloc::{AllocError, Global};
 use std::io::{self, ErrorKind, Write};
 use std::marker::Model;
@@ -32,21 +33,17 @@ pub enum Written {
 /// The lines that wait to be written to a log. They are written in the order in which they were added.
 #[derive(Drop)]
 pub struct Waiting {
-    bytes: Vec<u8>,
-    // how many of them were written
-    written: usize,
-    // whether these end within a line
+    queue: ByteQueue,
+    // whether the bytes that were written end within a line
     is_half: bool,
 }
 
 impl Model for Waiting {
-    ghost use Rattle.std.specs.Prelude.{◌≤◌, ℕ, List, drop, vec_len};
+    ghost use Rattle.std.specs.Prelude.{ℕ, List};
 
     ghost Value = { List ℕ };
 
-    ghost view = { λ waiting. drop waiting.written waiting.bytes.items };
-
-    ghost invariant = { λ waiting. waiting.written ≤ vec_len waiting.bytes };
+    ghost view = { λ waiting. waiting.queue.waiting };
 }
 
 impl Waiting {
@@ -55,8 +52,7 @@ impl Waiting {
         ensures { result ≡ [] }
     {
         Waiting {
-            bytes: Vec::new(alloc),
-            written: 0,
+            queue: ByteQueue::new(alloc),
             is_half: false,
         }
     }
@@ -65,14 +61,14 @@ impl Waiting {
     pub fn len(&self) -> usize
         ensures { result ≡ length self.now }
     {
-        self.bytes.len() - self.written
+        self.queue.len()
     }
 
     /// Whether no bytes wait.
     pub fn is_empty(&self) -> bool
         ensures { IsTrue result ↔ (self.now ≡ []) }
     {
-        self.len() == 0
+        self.queue.is_empty()
     }
 
     /// Whether the first of the bytes that wait are the rest of a line.
@@ -83,7 +79,7 @@ impl Waiting {
     /// How many lines end among the bytes that wait.
     pub fn lines(&self) -> u64 {
         let mut lines = 0u64;
-        for byte in &self.bytes[self.written..] {
+        for byte in self.queue.rest() {
             if *byte == b'\n' {
                 lines = lines.saturating_add(1);
             }
@@ -98,11 +94,10 @@ impl Waiting {
         ensures most { OnOk result (length self.new ≤ 1048576) }
         ensures fault { OnErr result (self.new ≡ self.old) }
     {
-        let rest = &self.bytes[self.written..];
-        if text.len() >= MOST_WAITING || rest.len() >= MOST_WAITING - text.len() {
+        if text.len() >= MOST_WAITING || self.len() >= MOST_WAITING - text.len() {
             return Err(LostLine::Full);
         }
-        match append(&mut self.bytes, &mut self.written, text.as_bytes()) {
+        match self.queue.put(text.as_bytes(), b"\n") {
             Ok(()) => Ok(()),
             Err(AllocError) => Err(LostLine::Memory),
         }
@@ -113,7 +108,7 @@ impl Waiting {
         ensures order { Writes (W.contents writer.old) (W.contents writer.new) self.old self.new }
         ensures all { result ≡ Written.All → self.new ≡ [] }
     {
-        let rest = &self.bytes[self.written..];
+        let rest = self.queue.rest();
         if rest.is_empty() {
             return Written::All;
         }
@@ -130,13 +125,11 @@ impl Waiting {
         ensures left { self.new ≡ drop count self.old }
         ensures all { result ≡ Written.All → self.new ≡ [] }
     {
-        self.written += count;
-        if self.written < self.bytes.len() {
-            self.is_half = self.bytes[self.written - 1] != b'\n';
+        self.is_half = self.queue.rest()[count - 1] != b'\n';
+        self.queue.take(count);
+        if !self.queue.is_empty() {
             return Written::Part;
         }
-        self.bytes.clear();
-        self.written = 0;
         self.is_half = false;
         Written::All
     }
@@ -147,11 +140,12 @@ impl Waiting {
             return false;
         }
         self.is_half = false;
-        let rest = &self.bytes[self.written..];
-        self.written = match rest.iter().position(|byte| *byte == b'\n') {
-            Some(at) => self.written + at + 1,
-            None => self.bytes.len(),
+        let rest = self.queue.rest();
+        let end = match rest.iter().position(|byte| *byte == b'\n') {
+            Some(at) => at + 1,
+            None => rest.len(),
         };
+        self.queue.take(end);
         true
     }
 }
@@ -164,35 +158,4 @@ fn ended_by(error: io::Error) -> Written
         ErrorKind::WouldBlock | ErrorKind::Interrupted => Written::Part,
         _ => Written::Failed(error),
     }
-}
-
-/// Puts a line after the bytes from a place on. Once most of the earlier bytes were written, these are dropped.
-fn append(bytes: &mut Vec<u8>, at: &mut usize, text: &[u8]) -> Result<(), AllocError>
-    requires { (at.old ≤ vec_len bytes.old) × (length text.now < 1048576) }
-    ensures within { at.new ≤ vec_len bytes.new }
-    ensures found { OnOk result (drop at.new bytes.new.items ≡ drop at.old bytes.old.items ++ line_of text.now) }
-    ensures fault { OnErr result ((at.new ≡ at.old) × (bytes.new.items ≡ bytes.old.items)) }
-{
-    if *at <= bytes.len() / 2 {
-        return add_line(bytes, text);
-    }
-    let rest = &bytes[*at..];
-    let mut both = Vec::with_capacity(*bytes.allocator(), rest.len())?;
-    both.extend_from_slice(rest)?;
-    add_line(&mut both, text)?;
-    *bytes = both;
-    *at = 0;
-    Ok(())
-}
-
-/// Puts a line after bytes.
-fn add_line(bytes: &mut Vec<u8>, text: &[u8]) -> Result<(), AllocError>
-    requires { length text.now < 1048576 }
-    ensures found { OnOk result (bytes.new.items ≡ bytes.old.items ++ line_of text.now) }
-    ensures fault { OnErr result (bytes.new.items ≡ bytes.old.items) }
-{
-    bytes.reserve(text.len() + 1)?;
-    bytes.extend_from_slice(text)?;
-    bytes.push(b'\n')?;
-    Ok(())
 }

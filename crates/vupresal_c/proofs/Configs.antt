@@ -36,7 +36,7 @@ fails_given s limits ConfigFault.BadBudget given (inr fault) =
 -- a fault of the configuration with these parts, which are those that are given
 pub config_fails : (s : Settings) (limits : LimitsValue) (node cluster : String Global) (filters : List Filter)
     (e : ConfigFault) → limits_given s.bounds ≡ Some limits → string_bytes node ≡ s.node.now
-    → string_bytes cluster ≡ s.cluster.now → filters_view filters ≡ resources_given s.filters.now
+    → string_bytes cluster ≡ s.cluster.now → filters_view filters ≡ resources_given s.bounds s.filters.now
     → (e ≡ ConfigFault.Memory) ⊎ IsAtFault (config_of node cluster filters limits) e → SettingsFail s (of_config e)
 config_fails s limits node cluster filters e given same_node same_cluster same_filters why =
     fails_given s limits e given (rw (same_node, same_cluster, same_filters) at why)

@@ -1,3 +1,5 @@
 pub mod Configs
+pub mod Inputs
+pub mod Writing
 pub mod Deciding
 pub mod Texts

@@ -3,8 +3,10 @@ use Rattle.std.specs.Prelude.{◌≡◌, ◌⊎◌, ℕ, Bool, true, false, IsTr
 use Rattle.attributes.specs.Conn.{Facts}
 use Rattle.attributes.specs.Limits.{LimitsValue}
 use Rattle.attributes.specs.Request.{RequestValue}
-use Rattle.c_inputs.specs.Facts.{AreTexts}
-use Rattle.c_inputs.specs.Requests.{are_too_long}
+use Rattle.c_inputs.specs.Facts.{AreAccepted, AreInRange, AreTexts, facts_given}
+use Rattle.c_inputs.specs.Requests.{HasProtocol, are_too_long, parts_given}
+use Rattle.c_inputs.specs.declared.facts.FactsInput.{FactsInput}
+use Rattle.c_inputs.specs.declared.request.RequestInput.{RequestInput}
 use Rattle.cel_tree.specs.Checked.{CelChecked}
 use Rattle.http_front.specs.Asks.{HasFault, HeadAsks, IsUnfinished}
 use Rattle.http_front.specs.Parts.{PartsAsk, PartsFault, PartsValue}
@@ -47,13 +49,14 @@ decision_of v = decision_with v.allowed v.matched
 abbrev pub Asking : Type 1
 Asking = LimitsValue → RequestValue → Type 0
 
--- the head asks for the request
-abbrev pub AsksByHead : List ℕ → Facts → Asking
-AsksByHead head facts limits r = HeadAsks head limits facts r
+-- the facts are those of a connection, on which the head asks for the request
+abbrev pub AsksByHead : List ℕ → FactsInput → Asking
+AsksByHead head given limits r = AreAccepted given × HeadAsks head limits (facts_given given) r
 
--- the parts ask for the request
-abbrev pub AsksByParts : PartsValue → Facts → Asking
-AsksByParts parts facts limits r = PartsAsk parts limits facts r
+-- the facts are those of a connection, on which the parts ask for the request; their protocol is one
+abbrev pub AsksByParts : RequestInput → FactsInput → Asking
+AsksByParts request given limits r =
+    AreAccepted given × HasProtocol request × PartsAsk (parts_given request) limits (facts_given given) r
 
 -- the verdict of every written filter that may be enforced as this one
 abbrev pub Judges : Admitted → RequestValue → Bool → Option ℕ → Type 0
@@ -74,20 +77,21 @@ IsDecision Asks a d = (r : RequestValue) × Asks (limits_view a) r × Judges a r
 abbrev pub WasNeverAdmitted : Admitted → Type 0
 WasNeverAdmitted a = (filter : Filter CelChecked) → IsAdmittedAs (limits_view a) filter (filter_view a) → ⊥
 
--- the filter has no decision, with this fault. `Has` says which faults the request has within these limits, and
--- `IsOpen` that its bytes are no whole head yet
-abbrev pub FailsFor : (LimitsValue → HeadFault → Type 0) → Type 0 → Facts → Admitted → Fault → Type 0
-FailsFor Has IsOpen facts a Empty = ⊥
-FailsFor Has IsOpen facts a OutOfRange = ⊥
-FailsFor Has IsOpen facts a (Refused refusal) = refusal ≡ Refusal.Memory
-FailsFor Has IsOpen facts a OutOfSteps = WasNeverAdmitted a
-FailsFor Has IsOpen facts a BadFacts = AreTexts facts → ⊥
-FailsFor Has IsOpen facts a Unfinished = IsOpen
-FailsFor Has IsOpen facts a (Head fault) = Has (limits_view a) fault
+-- the filter has no decision, with this fault. `Has` says which faults the request has within these limits. `IsOpen`
+-- says that its bytes are no whole head yet, and `IsOut` that a number is out of its range
+abbrev pub FailsFor : (LimitsValue → HeadFault → Type 0) → (IsOpen IsOut : Type 0) → FactsInput → Admitted → Fault → Type 0
+FailsFor Has IsOpen IsOut facts a Empty = ⊥
+FailsFor Has IsOpen IsOut facts a OutOfRange = IsOut
+FailsFor Has IsOpen IsOut facts a (Refused refusal) = refusal ≡ Refusal.Memory
+FailsFor Has IsOpen IsOut facts a OutOfSteps = WasNeverAdmitted a
+FailsFor Has IsOpen IsOut facts a BadFacts = AreTexts facts → ⊥
+FailsFor Has IsOpen IsOut facts a Unfinished = IsOpen
+FailsFor Has IsOpen IsOut facts a (Head fault) = Has (limits_view a) fault
 
 -- the filter has no decision on a head, with this fault
-abbrev pub HeadFailsFor : List ℕ → Facts → Admitted → Fault → Type 0
-HeadFailsFor head facts = FailsFor (λ limits fault. HasFault head limits facts fault) (IsUnfinished head) facts
+abbrev pub HeadFailsFor : List ℕ → FactsInput → Admitted → Fault → Type 0
+HeadFailsFor head given = FailsFor (λ limits fault. HasFault head limits (facts_given given) fault) (IsUnfinished head)
+    (AreInRange given → ⊥) given
 
 -- the parts have this fault: they are outside the limits by their lengths alone, or it is one of the head that they spell
 abbrev pub GivenFault : PartsValue → Facts → LimitsValue → HeadFault → Type 0
@@ -98,9 +102,14 @@ GivenFault parts facts limits fault =
 abbrev pub too_long : Fault
 too_long = Head OutsideLimits
 
+-- a port or an address of the facts is none, or the number of the protocol is that of none
+abbrev pub AreOutOfRange : RequestInput → FactsInput → Type 0
+AreOutOfRange request given = (AreInRange given → ⊥) ⊎ (HasProtocol request → ⊥)
+
 -- the filter has no decision on a request by its parts, with this fault
-abbrev pub PartsFailFor : PartsValue → Facts → Admitted → Fault → Type 0
-PartsFailFor parts facts = FailsFor (GivenFault parts facts) ⊥ facts
+abbrev pub PartsFailFor : RequestInput → FactsInput → Admitted → Fault → Type 0
+PartsFailFor request given = FailsFor (GivenFault (parts_given request) (facts_given given)) ⊥
+    (AreOutOfRange request given) given
 
 -- the handle has a filter, and the parts are outside its limits by their lengths alone
 abbrev pub AreTooLongFor : PartsValue → Option Admitted → Type 0

@@ -6,30 +6,32 @@ use Rattle.ads.specs.Config.{ConfigValue, FilterValue, IsAtFault}
 use Rattle.ads.specs.declared.config.ConfigFault.{ConfigFault}
 use Rattle.attributes.specs.Limits.{LimitsValue}
 use Rattle.c_inputs.specs.Bounds.{limits_given}
+use Rattle.c_inputs.specs.declared.bounds.Bounds.{Bounds}
 use Rattle.proto_wire.specs.declared.refusal.Refusal.{Refusal}
 use Rattle.proxy_core.specs.Events.{no_output, output_view}
 use Rattle.proxy_core.specs.Proxies.{proxy_view}
 use Rattle.proxy_core.specs.Step.{new_proxy}
 use Rattle.c_slots.specs.declared.proxy_slot.Core.{Core}
+use Rattle.vupresal_c.specs.Admission.{budget_given}
 use Rattle.vupresal_c.specs.declared.fault.Fault.{Fault}
 use Rattle.vupresal_c.specs.declared.fault.Fault.TheVariants.{OutOfRange, Refused}
 use Rattle.vupresal_c.specs.declared.settings.Resource.{Resource}
 use Rattle.vupresal_c.specs.declared.settings.Settings.{Settings}
 
--- a filter as it is given
-abbrev pub resource_given : Resource → FilterValue
-resource_given r = record { name = r.name.now; budget = r.budget }
+-- a filter as it is given; the bounds have the visits of its budget
+abbrev pub resource_given : Bounds → Resource → FilterValue
+resource_given bounds r = record { name = r.name.now; budget = budget_given bounds r.budget }
 
 -- the filters as they are given, in order
-abbrev pub resources_given : List Resource → List FilterValue
-resources_given resources = map resource_given resources
+abbrev pub resources_given : Bounds → List Resource → List FilterValue
+resources_given bounds resources = map (resource_given bounds) resources
 
 -- the configuration that the settings are, with these limits
 abbrev pub config_given : Settings → LimitsValue → ConfigValue
 config_given s limits = record {
   node = s.node.now;
   cluster = s.cluster.now;
-  filters = resources_given s.filters.now;
+  filters = resources_given s.bounds s.filters.now;
   limits = limits;
 }
 

@@ -32,6 +32,7 @@ memory = Refused Refusal.Memory
 -- the fault of facts
 abbrev pub of_facts : FactsFault → Fault
 of_facts facts.NoText = BadFacts
+of_facts facts.OutOfRange = OutOfRange
 of_facts facts.Memory = memory
 
 -- the fault of a run

@@ -1,13 +1,13 @@
 -- Events of a proxy's core for C (this project's own): what each gives, and what the handle holds after it.
 use Rattle.std.specs.Prelude.{◌≡◌, ◌⊎◌, ℕ, ℤ, false, Option, Some, None, IsSomeAnd, length}
-use Rattle.attributes.specs.Conn.{Facts}
-use Rattle.c_inputs.specs.Facts.{AreTexts}
+use Rattle.c_inputs.specs.Facts.{AreAccepted, AreInRange, AreTexts, facts_given}
+use Rattle.c_inputs.specs.declared.facts.FactsInput.{FactsInput}
 use Rattle.proxy_core.specs.Events.{EventValue, OutputValue, http_open, output_view}
 use Rattle.proxy_core.specs.Proxies.{proxy_view}
 use Rattle.proxy_core.specs.Step.{StepsBy, TakesNoMemory}
 use Rattle.c_slots.specs.declared.proxy_slot.Core.{Core}
 use Rattle.vupresal_c.specs.Statuses.{done, memory, status_of}
-use Rattle.vupresal_c.specs.declared.fault.Fault.TheVariants.{BadFacts, Empty}
+use Rattle.vupresal_c.specs.declared.fault.Fault.TheVariants.{BadFacts, Empty, OutOfRange}
 use Rattle.vupresal_c.specs.declared.step.Given.{Given}
 
 -- what C gets of an output
@@ -42,10 +42,12 @@ StepsTo (Some old) event status given new =
     ((status ≡ done) × IsSomeAnd new (Takes old event given))
     ⊎ ((status ≡ status_of memory) × (TakesNoMemory (proxy_view old.proxy) event → ⊥) × Stays (Some old) given new)
 
--- the effect of the opening of a connection: that of the event, unless a text of its facts is at fault, or memory ran
--- out before. An empty handle stays empty, whatever the facts are
-abbrev pub OpensFrom : Option Core → ℕ → Facts → ℤ → Given → Option Core → Type 0
+-- the effect of the opening of a connection: that of the event, unless its facts are at fault, or memory ran out
+-- before. An empty handle stays empty, whatever the facts are
+abbrev pub OpensFrom : Option Core → ℕ → FactsInput → ℤ → Given → Option Core → Type 0
 OpensFrom None number facts status given new = (status ≡ status_of Empty) × Stays None given new
-OpensFrom (Some old) number facts status given new = StepsTo (Some old) (http_open number facts) status given new
+OpensFrom (Some old) number facts status given new =
+    (AreAccepted facts × StepsTo (Some old) (http_open number (facts_given facts)) status given new)
     ⊎ ((status ≡ status_of BadFacts) × (AreTexts facts → ⊥) × Stays (Some old) given new)
+    ⊎ ((status ≡ status_of OutOfRange) × (AreInRange facts → ⊥) × Stays (Some old) given new)
     ⊎ ((status ≡ status_of memory) × Stays (Some old) given new)

@@ -1,8 +1,9 @@
 //! Admission of filters.
 
 ghost use Rattle.std.specs.Arc.{arc_value};
-ghost use Rattle.std.specs.Prelude.{◌≡◌, ◌≢◌, IfOk, IfErr, IsSomeAnd};
-ghost use Rattle.vupresal_c.specs.Admission.{AdmitFails, IsAdmission, fault_in};
+ghost use Rattle.std.specs.Prelude.{◌≡◌, ◌≢◌, [], IfOk, IfErr, IsSomeAnd};
+ghost use Rattle.vupresal_c.specs.Admission.{AdmitFails, IsAdmission, budget_given, fault_in};
+ghost use Rattle.vupresal_c.specs.Copies.{HoldsSomeText, HoldsText};
 ghost use Rattle.vupresal_c.specs.Handles.{filter_in};
 ghost use Rattle.vupresal_c.specs.Statuses.{done, status_of};
 ghost use Rattle.vupresal_c.specs.declared.fault.Fault.{Fault as FaultValue};
@@ -11,17 +12,15 @@ use crate::copying::copy_text;
 use crate::fault::{Fault, OK};
 use crate::filter::Filter;
 use c_inputs::{Bounds, limits_of};
+use cost_bound::Budget;
 use proto_wire::Fault as Placed;
 use rbac_policy::{Admitted, admit_at, place_of_fault};
 use std::alloc::{AllocFailed, Global};
 use std::sync::Arc;
 
-/// The greatest budget, in steps.
-const MOST_BUDGET: u64 = 100_000_000;
-
 /// Admits the message of an HTTP RBAC filter (`envoy.extensions.filters.http.rbac.v3.RBAC`) and puts the filter into the
-/// handle, instead of what it held. The budget is 1 to 100,000,000 steps. The status is 0, the number of the refusal, or
-/// -2 for limits or a budget out of range. If it is not 0, the handle is as before. The place of a refusal goes into the
+/// handle, instead of what it held. The budget is 1 to 100,000,000 steps, and the visits of the bounds. The status is 0,
+/// the number of the refusal, or -2 for limits or a budget out of range. If it is not 0, the handle is as before. The place of a refusal goes into the
 /// room as UTF-8 with a zero at its end; it is empty if no part can be named, and after an admission.
 #[unsafe(no_mangle)]
 pub extern "C" fn vupresal_filter_admit(
@@ -37,6 +36,8 @@ pub extern "C" fn vupresal_filter_admit(
     ensures fault { result ≢ done
         → (e : FaultValue) × AdmitFails message.now bounds.now budget e × (result ≡ status_of e) }
     ensures kept { result ≢ done → filter_in filter.new ≡ filter_in filter.old }
+    ensures place { HoldsSomeText place.old place.new }
+    ensures no_place { result ≡ done → HoldsText [] place.old place.new }
 {
     match admitted(alloc, message, bounds, budget) {
         Ok(owner) => {
@@ -46,12 +47,19 @@ pub extern "C" fn vupresal_filter_admit(
             OK
         }
         Err(fault) => {
-            match fault.place(alloc, message) {
-                Some(named) => copy_text(&named, place),
-                None => copy_text("", place),
-            }
+            tell_place(fault.place(alloc, message), place);
             fault.fault().status()
         }
+    }
+}
+
+/// Copies the words for a place, or an empty text if there are none.
+fn tell_place(named: Option<String>, room: &mut [u8])
+    ensures { HoldsSomeText room.old room.new }
+{
+    match named {
+        Some(named) => copy_text(&named, room),
+        None => copy_text("", room),
     }
 }
 
@@ -105,6 +113,19 @@ impl<T: Drop> From<AllocFailed<T>> for NotAdmitted {
     }
 }
 
+/// The budget of so many steps, and of the visits of the bounds.
+pub(crate) fn budget_of(bounds: &Bounds, steps: u64) -> Budget
+    ensures { result ≡ budget_given bounds.now steps }
+{
+    if bounds.visits == 0 {
+        return Budget::of_steps(steps);
+    }
+    Budget {
+        steps,
+        visits: bounds.visits,
+    }
+}
+
 /// The first owner of the filter of a message, in a box.
 fn admitted(
     alloc: Global,
@@ -119,10 +140,11 @@ fn admitted(
     let Some(limits) = limits_of(bounds) else {
         return Err(NotAdmitted::OutOfRange);
     };
-    if budget == 0 || budget > MOST_BUDGET {
+    let mut left = budget_of(bounds, budget);
+    if !left.is_allowed() {
         return Err(NotAdmitted::OutOfRange);
     }
-    let admitted = admit_at(alloc, message, &limits, budget)?;
+    let admitted = admit_at(alloc, message, &limits, &mut left)?;
     let owner = Arc::new(alloc, admitted)?;
     Ok(Box::new(alloc, owner)?)
 }

@@ -1,7 +1,6 @@
 //! Decisions on the request of a head.
 
 ghost use Rattle.std.specs.Prelude.{◌≡◌, ◌≢◌, IfOk, IfErr, IsSomeAnd};
-ghost use Rattle.c_inputs.specs.Facts.{facts_given};
 ghost use Rattle.vupresal_c.specs.Decisions.{AsksByHead, Fails, HeadFailsFor, IsAnswer, IsDecision, refused};
 ghost use Rattle.vupresal_c.specs.Handles.{filter_in};
 ghost use Rattle.vupresal_c.specs.Statuses.{done, status_of};
@@ -16,7 +15,8 @@ use rbac_policy::{Admitted, Verdict};
 use std::alloc::Global;
 
 /// Gives the filter's decision on the request of an HTTP/1 head, which is whole. The status is 0; 400, 431 or 501 for a
-/// head or facts at fault; 19 or 20 without an answer; or -1 for an empty handle. If it is not 0, the decision refuses.
+/// head or facts at fault; 19 or 20 without an answer; or -1 for an empty handle. It is -2 for a port or an address out of
+/// range. If it is not 0, the decision refuses.
 #[unsafe(no_mangle)]
 pub extern "C" fn vupresal_filter_decide_head(
     alloc: Global,
@@ -26,9 +26,9 @@ pub extern "C" fn vupresal_filter_decide_head(
     decision: &mut Decision,
 ) -> i32
     ensures found { result ≡ done → IsSomeAnd (filter_in filter.old)
-        (λ a. IsDecision (AsksByHead head.now (facts_given facts.now)) a decision.new) }
+        (λ a. IsDecision (AsksByHead head.now facts.now) a decision.new) }
     ensures fault { result ≢ done → (e : FaultValue)
-        × Fails (filter_in filter.old) (HeadFailsFor head.now (facts_given facts.now)) e
+        × Fails (filter_in filter.old) (HeadFailsFor head.now facts.now) e
         × (result ≡ status_of e) }
     ensures refused { result ≢ done → decision.new ≡ refused }
     ensures kept { filter_in filter.new ≡ filter_in filter.old }
@@ -50,8 +50,8 @@ fn decide_head(
     head: &[u8],
     facts: &FactsInput<'_>,
 ) -> Result<Verdict, Fault>
-    ensures found { IfOk result (IsAnswer (AsksByHead head.now (facts_given facts.now)) admitted.now) }
-    ensures fault { IfErr result (HeadFailsFor head.now (facts_given facts.now) admitted.now) }
+    ensures found { IfOk result (IsAnswer (AsksByHead head.now facts.now) admitted.now) }
+    ensures fault { IfErr result (HeadFailsFor head.now facts.now admitted.now) }
 {
     let conn = conn_of(alloc, facts)?;
     match read_head(alloc, head, admitted.limits(), conn)? {

@@ -1,7 +1,6 @@
 //! Decisions on a request by its parts.
 
 ghost use Rattle.std.specs.Prelude.{◌≡◌, ◌≢◌, IfOk, IfErr, IsSomeAnd, IsTrue, Err};
-ghost use Rattle.c_inputs.specs.Facts.{facts_given};
 ghost use Rattle.c_inputs.specs.Requests.{are_too_long, parts_given};
 ghost use Rattle.rbac_policy.specs.Admitted.{limits_view};
 ghost use Rattle.vupresal_c.specs.Decisions.{AreTooLongFor, AsksByParts, Fails, IsAnswer, IsDecision, PartsFailFor, refused, too_long};
@@ -17,8 +16,9 @@ use http_front::{HeadFault, HeadParts, request_of_parts};
 use rbac_policy::{Admitted, Verdict};
 use std::alloc::Global;
 
-/// Gives the filter's decision on a request by its parts, with the same statuses as for a head. If the lengths of the parts
-/// put it outside the limits, the status is 431, and no byte of a part is read.
+/// Gives the filter's decision on a request by its parts, with the same statuses as for a head. The status is also -2 for a
+/// protocol out of range. If the lengths of the parts put it outside the limits, the status is 431, and no byte of a part
+/// is read.
 #[unsafe(no_mangle)]
 pub extern "C" fn vupresal_filter_decide(
     alloc: Global,
@@ -28,9 +28,9 @@ pub extern "C" fn vupresal_filter_decide(
     decision: &mut Decision,
 ) -> i32
     ensures found { result ≡ done → IsSomeAnd (filter_in filter.old)
-        (λ a. IsDecision (AsksByParts (parts_given request.now) (facts_given facts.now)) a decision.new) }
+        (λ a. IsDecision (AsksByParts request.now facts.now) a decision.new) }
     ensures fault { result ≢ done → (e : FaultValue)
-        × Fails (filter_in filter.old) (PartsFailFor (parts_given request.now) (facts_given facts.now)) e
+        × Fails (filter_in filter.old) (PartsFailFor request.now facts.now) e
         × (result ≡ status_of e) }
     ensures long { AreTooLongFor (parts_given request.now) (filter_in filter.old)
         → result ≡ status_of too_long }
@@ -55,9 +55,9 @@ fn decide_parts(
     facts: &FactsInput<'_>,
 ) -> Result<Verdict, Fault>
     ensures found { IfOk result
-        (IsAnswer (AsksByParts (parts_given request.now) (facts_given facts.now)) admitted.now) }
+        (IsAnswer (AsksByParts request.now facts.now) admitted.now) }
     ensures fault { IfErr result
-        (PartsFailFor (parts_given request.now) (facts_given facts.now) admitted.now) }
+        (PartsFailFor request.now facts.now admitted.now) }
     ensures long { IsTrue (are_too_long (limits_view admitted.now) (parts_given request.now))
         → result ≡ Err too_long }
 {
@@ -76,15 +76,18 @@ fn judge_parts(
     facts: &FactsInput<'_>,
 ) -> Result<Verdict, Fault>
     ensures found { IfOk result
-        (IsAnswer (AsksByParts (parts_given request.now) (facts_given facts.now)) admitted.now) }
+        (IsAnswer (AsksByParts request.now facts.now) admitted.now) }
     ensures fault { IfErr result
-        (PartsFailFor (parts_given request.now) (facts_given facts.now) admitted.now) }
+        (PartsFailFor request.now facts.now admitted.now) }
 {
     let conn = conn_of(alloc, facts)?;
+    let Some(protocol) = request.given_protocol() else {
+        return Err(Fault::OutOfRange);
+    };
     let parts = HeadParts {
         method: request.method,
         target: request.target,
-        is_http11: request.is_http11,
+        protocol,
         lines: request.lines,
     };
     match request_of_parts(alloc, admitted.limits(), conn, &parts)? {

@@ -1,7 +1,7 @@
 //! Copies into C's memory.
 
-ghost use Rattle.std.specs.Prelude.{◌≡◌, ◌≤◌, length};
-ghost use Rattle.vupresal_c.specs.Copies.{filled};
+ghost use Rattle.std.specs.Prelude.{◌≡◌, length};
+ghost use Rattle.vupresal_c.specs.Copies.{HoldsText, filled};
 
 /// Copies as many bytes as the room takes; the number of all bytes.
 pub(crate) fn copy(bytes: &[u8], room: &mut [u8]) -> usize
@@ -14,23 +14,13 @@ pub(crate) fn copy(bytes: &[u8], room: &mut [u8]) -> usize
 }
 
 /// Copies as much of the text as the room takes, in whole characters, and a zero after it. Without room, nothing.
-pub(crate) fn copy_text(text: &str, room: &mut [u8]) {
+pub(crate) fn copy_text(text: &str, room: &mut [u8])
+    ensures { HoldsText text.now room.old room.new }
+{
     if room.is_empty() {
         return;
     }
-    let count = whole_characters(text, text.len().min(room.len() - 1));
+    let count = text.floor_char_boundary(room.len() - 1);
     room[..count].copy_from_slice(&text.as_bytes()[..count]);
     room[count] = 0;
-}
-
-/// The bytes of the text's first characters that are whole in so many bytes.
-fn whole_characters(text: &str, most: usize) -> usize
-    ensures { result ≤ most }
-{
-    for count in (1..=most).rev() {
-        if text.is_char_boundary(count) {
-            return count;
-        }
-    }
-    0
 }

@@ -18,7 +18,7 @@ pub(crate) const OK: i32 = 0;
 pub(crate) enum Fault {
     /// The handle is empty.
     Empty,
-    /// The limits, the budget or the configuration are out of range.
+    /// The limits, the budget or the configuration are out of range, or a port, an address or a protocol is.
     OutOfRange,
     /// The filter's message has this fault, or memory ran out.
     Refused(Refusal),
@@ -88,6 +88,7 @@ impl From<FactsFault> for Fault {
     fn from(fault: FactsFault) -> Fault {
         match fault {
             FactsFault::NoText => Fault::BadFacts,
+            FactsFault::OutOfRange => Fault::OutOfRange,
             FactsFault::Memory => Fault::Refused(Refusal::Memory),
         }
     }

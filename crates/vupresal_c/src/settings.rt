@@ -6,6 +6,7 @@ ghost use Rattle.std.specs.String.{string_bytes};
 ghost use Rattle.ads.specs.Views.{filter_view, filters_view};
 ghost use Rattle.vupresal_c.specs.Settings.{AreTexts, IsConfig, IsNewCore, SettingsFail, TextFails, are_too_long, has_long_name, is_long_name, resource_given, resources_given};
 
+use crate::admission::budget_of;
 use crate::fault::Fault;
 use ads::{Config, Filter};
 use c_inputs::{Bounds, limits_of};
@@ -91,35 +92,39 @@ fn config_of(alloc: Global, settings: &Settings<'_>) -> Result<Config, Fault>
     };
     let node = text(alloc, settings.node)?;
     let cluster = text(alloc, settings.cluster)?;
-    let filters = filters_of(alloc, settings.filters)?;
+    let filters = filters_of(alloc, settings.filters, &settings.bounds)?;
     match Config::new(alloc, node, cluster, filters, limits) {
         Ok(config) => Ok(config),
         Err(fault) => Err(Fault::from(fault)),
     }
 }
 
-/// The filters of these resources.
-fn filters_of(alloc: Global, resources: &[Resource<'_>]) -> Result<Vec<Filter>, Fault>
-    ensures found { IfOk result (λ filters. filters_view filters.items ≡ resources_given resources.now) }
+/// The filters of these resources, whose budgets have the visits of the bounds.
+fn filters_of(
+    alloc: Global,
+    resources: &[Resource<'_>],
+    bounds: &Bounds,
+) -> Result<Vec<Filter>, Fault>
+    ensures found { IfOk result (λ filters. filters_view filters.items ≡ resources_given bounds.now resources.now) }
     ensures fault { IfErr result (TextFails (AreTexts resources.now)) }
 {
     let mut filters = Vec::new(alloc);
     for resource in resources {
-        let filter = filter_of(alloc, resource)?;
+        let filter = filter_of(alloc, resource, bounds)?;
         filters.push(filter)?;
     }
     Ok(filters)
 }
 
 /// The filter of a resource.
-fn filter_of(alloc: Global, resource: &Resource<'_>) -> Result<Filter, Fault>
-    ensures found { IfOk result (λ filter. filter_view filter ≡ resource_given resource.now) }
+fn filter_of(alloc: Global, resource: &Resource<'_>, bounds: &Bounds) -> Result<Filter, Fault>
+    ensures found { IfOk result (λ filter. filter_view filter ≡ resource_given bounds.now resource.now) }
     ensures fault { IfErr result (TextFails (IsUtf8 resource.now.name.now)) }
 {
     let name = text(alloc, resource.name)?;
     Ok(Filter {
         name,
-        budget: resource.budget,
+        budget: budget_of(bounds, resource.budget),
     })
 }
 

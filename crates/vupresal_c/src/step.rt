@@ -1,7 +1,6 @@
 //! Events of a proxy's core.
 
 ghost use Rattle.std.specs.Prelude.{◌≡◌, Some};
-ghost use Rattle.c_inputs.specs.Facts.{facts_given};
 ghost use Rattle.proxy_core.specs.Events.{ads_bytes, ads_lost, ads_up, event_view, http_bytes, http_closed, http_open, output_view};
 ghost use Rattle.vupresal_c.specs.Handles.{core_in};
 ghost use Rattle.vupresal_c.specs.Steps.{OpensFrom, StepsTo, given_of, nothing_given};
@@ -118,7 +117,7 @@ fn open_in(
     facts: &FactsInput<'_>,
     given: &mut Given,
 ) -> i32
-    ensures { OpensFrom (Some core.old) number (facts_given facts.now) result given.new (Some core.new) }
+    ensures { OpensFrom (Some core.old) number facts.now result given.new (Some core.new) }
 {
     match conn_of(alloc, facts) {
         Ok(conn) => step_core(core, Event::HttpOpen(number, &conn), given),
@@ -130,7 +129,7 @@ fn open_in(
 }
 
 /// A connection of this number, 0 to 7, opens with these facts. The status is also 400, for a text of the facts that is
-/// not UTF-8 or has more than 65,536 bytes.
+/// not UTF-8 or has more than 65,536 bytes. It is -2 for a port or an address out of range.
 #[unsafe(no_mangle)]
 pub extern "C" fn vupresal_proxy_http_open(
     alloc: Global,
@@ -139,8 +138,7 @@ pub extern "C" fn vupresal_proxy_http_open(
     facts: &FactsInput<'_>,
     given: &mut Given,
 ) -> i32
-    ensures { OpensFrom (core_in proxy.old) number (facts_given facts.now) result given.new
-        (core_in proxy.new) }
+    ensures { OpensFrom (core_in proxy.old) number facts.now result given.new (core_in proxy.new) }
 {
     let Some(mut core) = proxy.take(alloc) else {
         *given = Given::nothing();

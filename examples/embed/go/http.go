@@ -37,7 +37,7 @@ func statusOf(err error) int {
 
 // RequestOf is the request as it was sent. net/http keeps no order of names, so they are in order of the alphabet.
 func RequestOf(r *http.Request) *Request {
-	request := &Request{Method: r.Method, Target: r.RequestURI, HTTP10: !r.ProtoAtLeast(1, 1)}
+	request := &Request{Method: r.Method, Target: r.RequestURI, HTTP10: !r.ProtoAtLeast(1, 1), ProtoMajor: r.ProtoMajor}
 	if r.Host != "" || !request.HTTP10 {
 		request.Lines = append(request.Lines, Line{"host", r.Host})
 	}

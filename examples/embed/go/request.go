@@ -21,6 +21,8 @@ type Request struct {
 	Lines []Line
 	// HTTP10 is for a request of HTTP/1.0, which may have no host.
 	HTTP10 bool
+	// ProtoMajor is 2 for HTTP/2 and 3 for HTTP/3, as in net/http; 0 and 1 are HTTP/1. Any other is refused.
+	ProtoMajor int
 }
 
 // Facts are what is known of a connection. An empty text and an invalid address stand for an absent fact.
@@ -87,6 +89,9 @@ func (p *packed) bytes(text string) C.vupresal_bytes {
 func (p *packed) packRequest(request *Request) {
 	p.request.method, p.request.target = p.bytes(request.Method), p.bytes(request.Target)
 	p.request.is_http11 = C.bool(!request.HTTP10)
+	if request.ProtoMajor != 1 {
+		p.request.protocol = C.uint64_t(request.ProtoMajor)
+	}
 	count := len(request.Lines)
 	if count == 0 {
 		return

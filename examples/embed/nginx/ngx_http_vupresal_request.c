@@ -379,6 +379,7 @@ ngx_http_vupresal_request(ngx_http_request_t *r, ngx_uint_t kind, vupresal_reque
     request->method = ngx_http_vupresal_bytes(&r->method_name);
     request->target = ngx_http_vupresal_bytes(&r->unparsed_uri);
     request->is_http11 = r->http_version >= NGX_HTTP_VERSION_11;
+    request->protocol = r->http_version >= NGX_HTTP_VERSION_20 ? r->http_version / NGX_HTTP_VERSION_10 : VUPRESAL_HTTP_1;
 
     if (kind == NGX_HTTP_VUPRESAL_NORMALISED && ngx_http_vupresal_normalised(r, &request->target) != NGX_OK) {
         return NGX_ERROR;

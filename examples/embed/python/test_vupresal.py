@@ -46,6 +46,39 @@ class Filters(unittest.TestCase):
                 one.decide("GET", "/", HOST, Facts(tls_version="\udcff"))
             self.assertEqual(raised.exception.status, 400)
 
+    def test_facts_that_are_none(self) -> None:
+        """A number that C would cut is refused, and no bytes of an address are absent."""
+        rows = [dict(source_port=2**32 + 22), dict(destination_port=65536), dict(source_port=-1), dict(connection_id=2**64), dict(connection_id=-1),
+                dict(remote_ip="10.0.0"), dict(destination_ip="")]
+        with Filter(example("any_any.bin")) as one:
+            for row in rows:
+                with self.subTest(row=row), self.assertRaises(ValueError):
+                    one.decide("GET", "/", HOST, Facts(**row))
+
+    def test_facts_in_one_form(self) -> None:
+        """Denied are the server name `a`, and destinations in 10.0.0.0/8."""
+        name = bytes.fromhex("0a1408011210 0a0170 120b 0a05 4a03 0a0161 12021801")
+        addresses = bytes.fromhex("0a1f0801121b 0a0170 1216 0a10 2a0e 0a08") + b"10.0.0.0" + bytes.fromhex("12020808 12021801")
+        rows = [(name, Facts(requested_server_name="a"), False), (name, Facts(requested_server_name="A"), False),
+                (name, Facts(requested_server_name="b"), True), (addresses, Facts(destination_ip="10.1.2.3"), False),
+                (addresses, Facts(destination_ip="::ffff:10.1.2.3"), False), (addresses, Facts(destination_ip="::ffff:b01:203"), True)]
+        for message, facts, allowed in rows:
+            with self.subTest(facts=facts), Filter(message) as one:
+                self.assertEqual(one.decide("GET", "/", HOST, facts).allowed, allowed)
+
+    def test_protocols(self) -> None:
+        """Allowed is what the condition `request.protocol == "HTTP/2"` allows."""
+        message = bytes.fromhex("0a4a12480a017012430a02180112021801223922371003323312045f3d3d5f1a1d10022a190a0d100122090a0772657175657374"
+                                "120870726f746f636f6c1a0c10041a083206") + b"HTTP/2"
+        with Filter(message) as one:
+            for protocol, allowed in (("HTTP/1.0", False), ("HTTP/1.1", False), ("HTTP/2", True), ("HTTP/3", False), (None, False)):
+                self.assertEqual(one.decide("GET", "/", HOST, protocol=protocol).allowed, allowed)
+            with self.assertRaises(Error) as raised:
+                one.decide("GET", "/", [], protocol="HTTP/2")
+            self.assertEqual(raised.exception.status, 400)
+            with self.assertRaises(ValueError):
+                one.decide("GET", "/", HOST, protocol="HTTP/4")
+
     def test_refusals(self) -> None:
         with self.assertRaises(Refused) as raised:
             Filter(example("condition.bin"), budget=1)

@@ -39,7 +39,7 @@ static vupresal_bytes text(const char *it) { return vupresal_bytes_of(it, strlen
 
 static void empty_handles(void) {
   vupresal_filter filter = {0};
-  vupresal_request request = {text("GET"), text("/"), NULL, 0, false};
+  vupresal_request request = {text("GET"), text("/"), NULL, 0, false, VUPRESAL_HTTP_1};
   uint8_t room[4] = {9, 9, 9, 9};
   for (int round = 0; round < 2; round++) {
     no_decision(&filter, plain, PLAIN_LENGTH, &bare, VUPRESAL_EMPTY);
@@ -71,9 +71,13 @@ static void admissions(vupresal_filter *filter) {
   for (size_t at = 0; at < 3; at++)
     CHECK_STATUS(vupresal_filter_admit(filter, message, length, &greatest, budgets[at], NULL, 0),
                  VUPRESAL_OUT_OF_RANGE);
-  const vupresal_bounds wrong[] = {{65, 1, 1, 1, 1, 1}, {1, 129, 1, 1, 1, 1},  {1, 1, 4097, 1, 1, 1},
-                                   {1, 1, 1, 33, 1, 1}, {1, 1, 1, 1, 4097, 1}, {1, 1, 1, 1, 1, 1025},
-                                   {0, 1, 1, 1, 1, 1},  {1, 1, 1, 1, 1, 0},    {SIZE_MAX, SIZE_MAX, 1, 1, 1, 1}};
+  const vupresal_bounds wrong[] = {{65, 1, 1, 1, 1, 1, 0},  {1, 129, 1, 1, 1, 1, 0},
+                                   {1, 1, 4097, 1, 1, 1, 0}, {1, 1, 1, 33, 1, 1, 0},
+                                   {1, 1, 1, 1, 4097, 1, 0}, {1, 1, 1, 1, 1, 1025, 0},
+                                   {0, 1, 1, 1, 1, 1, 0},   {1, 1, 1, 1, 1, 0, 0},
+                                   {SIZE_MAX, SIZE_MAX, 1, 1, 1, 1, 0},
+                                   /* visits of 2^63 and more */
+                                   {1, 1, 1, 1, 1, 1, UINT64_C(1) << 63}, {1, 1, 1, 1, 1, 1, UINT64_MAX}};
   for (size_t at = 0; at < sizeof wrong / sizeof *wrong; at++)
     CHECK_STATUS(vupresal_filter_admit(filter, message, length, &wrong[at], 1, NULL, 0), VUPRESAL_OUT_OF_RANGE);
   /* the place is cut to the room, and ends in a zero */
@@ -121,7 +125,7 @@ static void parts(vupresal_filter *filter) {
   vupresal_line lines[70];
   for (size_t at = 0; at < 70; at++) lines[at] = (vupresal_line){text("x"), text("v")};
   lines[0] = (vupresal_line){text("host"), text("h")};
-  const vupresal_request good = {text("GET"), text("/"), lines, 1, true};
+  const vupresal_request good = {text("GET"), text("/"), lines, 1, true, VUPRESAL_HTTP_1};
   vupresal_decision decision = stale();
   CHECK_STATUS(vupresal_filter_decide(filter, &good, &bare, &decision), VUPRESAL_OK);
   CHECK(decision.is_allowed);
@@ -172,7 +176,7 @@ static void lengths(vupresal_filter *filter) {
   for (size_t at = 0; at < 3; at++) {
     const vupresal_bytes far = vupresal_bytes_of("a", sizes[at]);
     vupresal_line lines[] = {{text("host"), text("h")}, {text("x"), text("v")}};
-    const vupresal_request good = {text("GET"), text("/"), lines, 2, true};
+    const vupresal_request good = {text("GET"), text("/"), lines, 2, true, VUPRESAL_HTTP_1};
     vupresal_request request = good;
     request.method = far;
     no_decision_of(filter, &request, VUPRESAL_OUTSIDE_LIMITS);
@@ -186,12 +190,12 @@ static void lengths(vupresal_filter *filter) {
     no_decision_of(filter, &request, VUPRESAL_OUTSIDE_LIMITS);
   }
   /* the limits are those of the filter */
-  const vupresal_bounds bounds = {5, 10, 4, 3, 2, 20};
+  const vupresal_bounds bounds = {5, 10, 4, 3, 2, 20, 0};
   vupresal_filter small = {0};
   CHECK_STATUS(vupresal_filter_admit(&small, message, length, &bounds, VUPRESAL_MOST_BUDGET, NULL, 0), VUPRESAL_OK);
   vupresal_line lines[6];
   for (size_t at = 0; at < 6; at++) lines[at] = (vupresal_line){text("host"), text("h")};
-  vupresal_request request = {text("GET"), text("/a"), lines, 1, true};
+  vupresal_request request = {text("GET"), text("/a"), lines, 1, true, VUPRESAL_HTTP_1};
   vupresal_decision decision = stale();
   CHECK_STATUS(vupresal_filter_decide(&small, &request, &bare, &decision), VUPRESAL_OK);
   request.line_count = 5; /* five hosts */
@@ -229,11 +233,89 @@ static void facts(vupresal_filter *filter) {
     vupresal_decision decision = stale();
     CHECK_STATUS(vupresal_filter_decide_head(filter, plain, PLAIN_LENGTH, &wrong, &decision), VUPRESAL_OK);
   }
-  wrong = bare, wrong.source_port = 65536, wrong.destination_port = INT32_MIN, wrong.mtls = INT32_MIN;
-  wrong.remote_ip = vupresal_bytes_of("12345", 5), wrong.destination_ip = vupresal_bytes_of("1", ENDLESS);
+  wrong = bare, wrong.source_port = INT32_MIN, wrong.destination_port = 65535, wrong.mtls = INT32_MIN;
   vupresal_decision decision = stale();
   CHECK_STATUS(vupresal_filter_decide_head(filter, plain, PLAIN_LENGTH, &wrong, &decision), VUPRESAL_OK);
   CHECK(decision.is_allowed);
+  /* numbers that are no ports, and bytes that are no address, are not absent */
+  const int32_t ports[] = {65536, INT32_MAX};
+  for (size_t at = 0; at < 2; at++) {
+    wrong = bare, wrong.source_port = ports[at];
+    no_decision(filter, plain, PLAIN_LENGTH, &wrong, VUPRESAL_OUT_OF_RANGE);
+    wrong = bare, wrong.destination_port = ports[at];
+    no_decision(filter, plain, PLAIN_LENGTH, &wrong, VUPRESAL_OUT_OF_RANGE);
+  }
+  const size_t sizes[] = {1, 3, 5, 8, 15, 17, ENDLESS};
+  for (size_t at = 0; at < sizeof sizes / sizeof *sizes; at++)
+    for (size_t place = 0; place < 3; place++) {
+      wrong = bare;
+      (&wrong.direct_remote_ip)[place] = vupresal_bytes_of("1", sizes[at]);
+      no_decision(filter, plain, PLAIN_LENGTH, &wrong, VUPRESAL_OUT_OF_RANGE);
+    }
+}
+
+/* Whether a filter with this message lets the head through on a connection with these facts. */
+static bool lets_through(const void *bytes, size_t count, const vupresal_facts *facts) {
+  vupresal_filter one = {0};
+  vupresal_decision decision = stale();
+  CHECK_STATUS(admit(&one, bytes, count), VUPRESAL_OK);
+  CHECK_STATUS(vupresal_filter_decide_head(&one, plain, PLAIN_LENGTH, facts, &decision), VUPRESAL_OK);
+  vupresal_filter_free(&one);
+  return decision.is_allowed;
+}
+
+/* Server names and addresses have one form, so that no rule on them is passed by another spelling. */
+static void one_form(void) {
+  /* denies the server name "a" */
+  static const uint8_t deny_name[] = "\x0a\x14\x08\x01\x12\x10\x0a\x01p\x12\x0b\x0a\x05\x4a\x03\x0a\x01" "a\x12\x02\x18\x01";
+  static const char *const denied[] = {"a", "A"}, *const passed[] = {"b", "", "aa", "\xc3\xa1"};
+  vupresal_facts facts = bare;
+  for (size_t at = 0; at < 2; at++) {
+    facts.requested_server_name = vupresal_text_of(denied[at], strlen(denied[at]));
+    CHECK(!lets_through(deny_name, sizeof deny_name - 1, &facts));
+  }
+  for (size_t at = 0; at < 4; at++) {
+    facts.requested_server_name = vupresal_text_of(passed[at], strlen(passed[at]));
+    CHECK(lets_through(deny_name, sizeof deny_name - 1, &facts));
+  }
+  /* denies the destination 10.0.0.0/8 */
+  static const uint8_t deny_range[] =
+      "\x0a\x1f\x08\x01\x12\x1b\x0a\x01p\x12\x16\x0a\x10\x2a\x0e\x0a\x08" "10.0.0.0\x12\x02\x08\x08\x12\x02\x18\x01";
+  static const uint8_t mapped[] = {0, 0, 0, 0, 0, 0, 0, 0, 0, 0, 0xff, 0xff, 10, 1, 2, 3},
+                       other[] = {0, 0, 0, 0, 0, 0, 0, 0, 0, 0, 0xff, 0xfe, 10, 1, 2, 3};
+  facts = bare;
+  CHECK(lets_through(deny_range, sizeof deny_range - 1, &facts));
+  facts.destination_ip = vupresal_bytes_of(mapped + 12, 4);
+  CHECK(!lets_through(deny_range, sizeof deny_range - 1, &facts));
+  facts.destination_ip = vupresal_bytes_of(mapped, 16);
+  CHECK(!lets_through(deny_range, sizeof deny_range - 1, &facts));
+  facts.destination_ip = vupresal_bytes_of(other, 16);
+  CHECK(lets_through(deny_range, sizeof deny_range - 1, &facts));
+}
+
+/* A filter whose condition is `request.protocol == "HTTP/2"` lets through what is of HTTP/2. */
+static void protocols(void) {
+  static const uint8_t http2[] =
+      "\x0aJ\x12H\x0a\x01p\x12\x43\x0a\x02\x18\x01\x12\x02\x18\x01\x22\x39\x22\x37\x10\x03\x32\x33\x12\x04_==_"
+      "\x1a\x1d\x10\x02*\x19\x0a\x0d\x10\x01\x22\x09\x0a\x07request\x12\x08protocol\x1a\x0c\x10\x04\x1a\x08\x32\x06HTTP/2";
+  static const struct { uint64_t protocol; bool is_http11, passes; int32_t status; } rows[] = {
+      {VUPRESAL_HTTP_1, true, false, VUPRESAL_OK},   {VUPRESAL_HTTP_1, false, false, VUPRESAL_OK},
+      {VUPRESAL_HTTP_2, true, true, VUPRESAL_OK},    {VUPRESAL_HTTP_2, false, true, VUPRESAL_OK},
+      {VUPRESAL_HTTP_3, true, false, VUPRESAL_OK},   {1, true, false, VUPRESAL_OUT_OF_RANGE},
+      {4, true, false, VUPRESAL_OUT_OF_RANGE},       {UINT64_MAX, true, false, VUPRESAL_OUT_OF_RANGE},
+      {(uint64_t)1 << 32, true, false, VUPRESAL_OUT_OF_RANGE}};
+  const vupresal_line host = {text(":authority"), text("h")};
+  vupresal_filter one = {0};
+  CHECK_STATUS(admit(&one, http2, sizeof http2 - 1), VUPRESAL_OK);
+  for (size_t at = 0; at < sizeof rows / sizeof *rows; at++) {
+    const vupresal_request request = {text("GET"), text("/"), &host, 1, rows[at].is_http11, rows[at].protocol};
+    vupresal_decision decision = stale();
+    CHECK_STATUS(vupresal_filter_decide(&one, &request, &bare, &decision), rows[at].status);
+    CHECK(decision.is_allowed == rows[at].passes);
+  }
+  const vupresal_request hostless = {text("GET"), text("/"), NULL, 0, false, VUPRESAL_HTTP_2};
+  no_decision_of(&one, &hostless, VUPRESAL_BAD_REQUEST);
+  vupresal_filter_free(&one);
 }
 
 static void names(vupresal_filter *filter) {
@@ -377,6 +459,8 @@ int main(int count, char **words) {
   parts(&filter);
   lengths(&filter);
   facts(&filter);
+  one_form();
+  protocols();
   names(&filter);
   shares(&filter);
   proxies();

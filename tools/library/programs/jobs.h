@@ -79,7 +79,7 @@ static vupresal_request parts_of(const uint8_t *head, size_t length, vupresal_li
   const char *line_end = (const char *)memchr(at, '\n', (size_t)(end - at));
   vupresal_request request = {vupresal_bytes_of(at, (size_t)(space - at)),
                               vupresal_bytes_of(space + 1, (size_t)(last - space - 1)), lines, 0,
-                              memcmp(last + 1, "HTTP/1.1", 8) == 0};
+                              memcmp(last + 1, "HTTP/1.1", 8) == 0, VUPRESAL_HTTP_1};
   for (at = line_end + 1; *at != '\r' && *at != '\n'; at = line_end + 1) {
     line_end = (const char *)memchr(at, '\n', (size_t)(end - at));
     const char *stop = line_end[-1] == '\r' ? line_end - 1 : line_end,

@@ -50,7 +50,7 @@ static int32_t by_head(vupresal_filter *filter) {
 
 static int32_t by_parts(vupresal_filter *filter) {
   vupresal_line lines[] = {{text("host"), text("h")}, {text("x-user"), text("a")}};
-  vupresal_request request = {text("GET"), text("/"), lines, 2, true};
+  vupresal_request request = {text("GET"), text("/"), lines, 2, true, VUPRESAL_HTTP_1};
   vupresal_decision decision = stale();
   int32_t status = vupresal_filter_decide(filter, &request, &bare, &decision);
   if (status != VUPRESAL_OK) check_refuses(decision);

@@ -7,6 +7,7 @@ use Rattle.attributes.specs.Limits.{LimitsValue}
 use Rattle.proto_wire.specs.declared.refusal.Refusal.{Refusal}
 use Rattle.xds_wire.specs.Discovery.{AnyMessage, ExtensionMessage, ResponseMessage}
 use Rattle.rbac_policy.specs.declared.filter.Admitted.{Admitted}
+use Rattle.cost_bound.specs.declared.budget.Budget.{Budget}
 use Rattle.ads.specs.Config.{FilterValue, ConfigValue}
 use Rattle.ads.specs.Answer.{FirstOf, Gives, IsResource, named, RefusesNothing, ResourceFault, extension_type}
 use Rattle.ads.specs.Judgements.{FirstAt, IsRefusedAs, Unfit}
@@ -70,5 +71,5 @@ given_of (judged.Given given) = Ok given
 given_of (judged.Refused r) = Err (not_accepted.Refused r)
 
 -- the filter with this name and this budget
-abbrev pub filter_of : List ℕ → ℕ → FilterValue
+abbrev pub filter_of : List ℕ → Budget → FilterValue
 filter_of name budget = record { name = name; budget = budget }

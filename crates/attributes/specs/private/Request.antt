@@ -1,5 +1,5 @@
 -- What a request keeps, and texts that it lends.
-use Rattle.std.specs.Prelude.{◌≡◌, ℕ, ◌≤◌, Bool, List, Option, length, option_map, slice_range}
+use Rattle.std.specs.Prelude.{◌≡◌, ℕ, ◌≤◌, List, Option, length, option_map, slice_range}
 use Rattle.std.specs.FinMap.{entries, from_sorted}
 use denote.Ref.{Bor}
 use Rattle.attributes.specs.Attributes.{query_of, url_path_of}
@@ -7,6 +7,7 @@ use Rattle.attributes.specs.Conn.{Facts}
 use Rattle.attributes.specs.Headers.{Entry}
 use Rattle.attributes.specs.Request.{IsRequest, RequestValue}
 use Rattle.attributes.specs.declared.part.Spot.{Spot}
+use Rattle.attributes.specs.declared.protocol.Protocol.{Protocol}
 use Rattle.attributes.specs.declared.request.CutPlaces.{CutPlaces}
 use Rattle.attributes.specs.private.Parts.{IsSpot, IsSpotOf}
 
@@ -19,11 +20,11 @@ abbrev pub lent_entry : Option (Bor (List ℕ) × Bor (List ℕ)) → Option Ent
 lent_entry = option_map (λ e. (e.0.now, e.1.now))
 
 -- the request with these parts; its headers are sorted by name
-abbrev pub of_parts : (method target : List ℕ) → Bool → ℕ → List Entry → Facts → RequestValue
-of_parts method target http11 lines headers facts = record {
+abbrev pub of_parts : (method target : List ℕ) → Protocol → ℕ → List Entry → Facts → RequestValue
+of_parts method target protocol lines headers facts = record {
   method = method;
   target = target;
-  http11 = http11;
+  protocol = protocol;
   lines = lines;
   headers = from_sorted headers;
   facts = facts;

@@ -1,5 +1,6 @@
 -- What a field says, without its place in memory.
 use Rattle.std.specs.Prelude.{option_map}
+use Rattle.attributes.specs.Conn.{server_name}
 use Rattle.head_map.specs.declared.field_claim.FieldClaim.{FieldClaim}
 use Rattle.head_map.specs.declared.field_claim.FieldClaim.TheVariants as claims
 use Rattle.head_map.specs.Claims.{Claim, direct_remote_ip, dns_san_peer_certificate, host, method, mtls, remote_ip, requested_server_name, scheme, source_port, subject_peer_certificate, target, uri_san_peer_certificate}
@@ -14,7 +15,8 @@ claim_of (claims.RemoteIp ip) = remote_ip ip
 claim_of (claims.DirectRemoteIp ip) = direct_remote_ip ip
 claim_of (claims.SourcePort port) = source_port port
 claim_of (claims.Mtls is) = mtls is
-claim_of (claims.RequestedServerName text) = requested_server_name (option_map (λ t. t.now) text)
+claim_of (claims.RequestedServerName text) =
+    requested_server_name (option_map server_name (option_map (λ t. t.now) text))
 claim_of (claims.SubjectPeerCertificate text) = subject_peer_certificate (option_map (λ t. t.now) text)
 claim_of (claims.DnsSanPeerCertificate text) = dns_san_peer_certificate (option_map (λ t. t.now) text)
 claim_of (claims.UriSanPeerCertificate text) = uri_san_peer_certificate (option_map (λ t. t.now) text)

@@ -2,6 +2,7 @@
 use Rattle.http_front.specs.declared.answer.Row.{Row}
 use Rattle.http_front.specs.Answer.{RowValue}
 
+-- the row that one of the code means
 abbrev pub row_view : Row → RowValue
 row_view row = record {
   status = row.status;

@@ -9,7 +9,7 @@ use Rattle.rbac_policy.specs.Filter.{Filter}
 use Rattle.rbac_policy.specs.Admitted.{filter_view, limits_view}
 use Rattle.rbac_judge.specs.Batches.{IsBatch, IsCutShort}
 use Rattle.rbac_judge.specs.Judging.{IsRefusedFor}
-use Rattle.rbac_judge.specs.private.Batching.{OfPolicies}
+use Rattle.rbac_judge.specs.Batches.{OfPolicies}
 use Rattle.rbac_judge.specs.declared.batch.BatchSettings.{BatchSettings}
 use Rattle.program_texts.specs.declared.replay_fault.ReplayFault.{ReplayFault}
 use Rattle.program_jobs.specs.Jobs.{IsConnOf, LeavesFault, LeavesReplay}

@@ -1,7 +1,7 @@
 -- What is printed of the result of a job that has a report.
 use Rattle.std.specs.Prelude.{◌⊎◌, Bool, List, Ok, Err, Option, Result, ℕ}
 use Rattle.program_jobs.specs.Jobs.{Leaves, LeavesFault, PrintsReport}
-use Rattle.rbac_judge.specs.private.Printed.{IsPrintedFor, with_why}
+use Rattle.rbac_judge.specs.Reports.{IsPrintedFor, with_why}
 use Rattle.program_jobs.specs.declared.job_fault.JobFault.{JobFault}
 use Rattle.program_jobs.specs.declared.job_fault.JobFault.TheVariants as faults
 use Rattle.rbac_judge.specs.declared.json.Why.{Why}

@@ -2,14 +2,12 @@
 use Rattle.std.specs.Prelude.{◌≡◌, ◌⊎◌, ◌↔◌, ◌<◌, ◌≤◌, ◌++◌, ◌∷◌, [], ⊤, true, ℕ, Bool, IfSome, IsTrue, List, Option, Some, None, option_map, string_bytes}
 use Rattle.attributes.specs.Conn.{Facts}
 use Rattle.attributes.specs.Limits.{FactsInLimits, largest}
-use Rattle.cel_tree.specs.Checked.{CelChecked}
-use Rattle.rbac_policy.specs.Admission.{Admits}
 use Rattle.rbac_policy.specs.Condition.{Program}
 use Rattle.rbac_policy.specs.Filter.{Filter}
 use Rattle.serde_json.specs.Data.{Data}
 use Rattle.serde_json.specs.Read.{read}
 use Rattle.serde_json.specs.Written.{compact_text}
-use Rattle.rbac_judge.specs.Batches.{Answer, IsAnswer, IsHead, IsTooLong, answer_text, bad_json}
+use Rattle.rbac_judge.specs.Batches.{Answer, IsAnswer, IsHead, IsTooLong, OfPolicies, answer_text, bad_json}
 use Rattle.rbac_judge.specs.Explain.{IsGiven}
 use Rattle.rbac_judge.specs.Judging.{IsDecision}
 use Rattle.rbac_judge.specs.Outcome.{printed_of}
@@ -21,11 +19,6 @@ use Rattle.rbac_judge.specs.declared.head_lines.HeadLine.TheVariants.{TooLong, W
 use Rattle.rbac_judge.specs.declared.report.Report.{Report}
 use Rattle.program_texts.specs.declared.replay_fault.ReplayFault.{ReplayFault}
 use Rattle.program_texts.specs.declared.replay_fault.ReplayFault.TheVariants as replay_faults
-
--- what holds of each policy that is admitted as this filter
-abbrev pub OfPolicies : Filter Program → (List ℕ → ℕ → Type 0) → Type 0
-OfPolicies enforced P =
-    (policy : List ℕ) (budget : ℕ) (filter : Filter CelChecked) → Admits policy largest budget filter enforced → P policy budget
 
 -- the bytes of a line of the input
 abbrev pub IsLineOf : HeadLine → List ℕ → Type 0

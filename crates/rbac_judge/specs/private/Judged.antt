@@ -8,19 +8,16 @@ use Rattle.cel_tree.specs.Checked.{CelChecked}
 use Rattle.http_front.specs.Asks.{IfFault, IfJudge}
 use Rattle.http_front.specs.declared.fault.HeadFault.TheVariants.{Unfinished}
 use Rattle.http_front.specs.declared.read.HeadAsk.{HeadAsk}
+use Rattle.cost_bound.specs.declared.budget.Budget.{Budget}
 use Rattle.rbac_policy.specs.Admission.{Admits, IsAdmittedAs}
 use Rattle.rbac_policy.specs.Condition.{Program, is_met}
 use Rattle.rbac_policy.specs.Filter.{Filter}
 use Rattle.rbac_policy.specs.Verdict.{IsVerdict}
 use Rattle.rbac_judge.specs.Explain.{Explains}
-use Rattle.rbac_judge.specs.Json.{no_cause}
 use Rattle.rbac_judge.specs.Judging.{IsOutcomeOf}
 use Rattle.rbac_judge.specs.declared.explain.Explanation.{Explanation}
-use Rattle.rbac_judge.specs.declared.explain.Explanation.TheVariants as explanations
-use Rattle.rbac_judge.specs.declared.judge.Finding.{Finding}
 use Rattle.rbac_judge.specs.declared.outcome.Outcome.{Outcome}
 use Rattle.rbac_judge.specs.declared.outcome.Outcome.TheVariants as outcomes
-use Rattle.rbac_judge.specs.declared.report.Report.{Report}
 
 -- the number of the policy that matched, if the outcome has one
 abbrev pub matched_in : Outcome → Option ℕ
@@ -32,20 +29,6 @@ matched_in _ = None
 abbrev pub IsNameOf : Filter Program → Outcome → Option (List ℕ) → Type 0
 IsNameOf enforced outcome name =
     name ≡ option_and_then (slice_get (keys enforced.policies)) (matched_in outcome)
-
--- a finding that has only an outcome
-abbrev pub bare : Outcome → Finding
-bare outcome = record { outcome = outcome; name = None; explanation = explanations.Absent }
-
--- the report of a finding
-abbrev pub report_with : Bool → Finding → Report
-report_with json finding = record {
-  outcome = finding.outcome;
-  name = finding.name;
-  json = json;
-  explanation = finding.explanation;
-  why = no_cause;
-}
 
 -- the outcome is the filter's answer to the request
 abbrev pub IsAnswerTo : Filter Program → RequestValue → Outcome → Type 0
@@ -74,7 +57,7 @@ IsExplanationOf enforced request explanation = (filter : Filter CelChecked)
 -- take any policy that is admitted as this filter. Its outcome and its explanation for the facts and the bytes are
 -- these, with the name of the policy that matched
 abbrev pub IsOutcomeUnder : Filter Program → Facts → List ℕ → Explanation → Outcome → Type 0
-IsOutcomeUnder enforced facts bytes explanation outcome = (policy : List ℕ) (budget : ℕ)
+IsOutcomeUnder enforced facts bytes explanation outcome = (policy : List ℕ) (budget : Budget)
     (filter : Filter CelChecked) (name : Option (List ℕ))
     → Admits policy largest budget filter enforced → IsNameOf enforced outcome name
     → IsOutcomeOf policy budget facts bytes name explanation outcome

@@ -1,5 +1,5 @@
 -- Why conditions are not admitted, step by step.
-use Rattle.std.specs.Prelude.{◌≡◌, ◌≢◌, ◌<◌, ℕ, List, Option, None, IsSomeAnd, MatchOption}
+use Rattle.std.specs.Prelude.{◌≡◌, ◌≢◌, ℕ, List, Option, None, IsSomeAnd, MatchOption}
 use Rattle.attributes.specs.Limits.{LimitsValue}
 use Rattle.cel_value.specs.Types.{ValueType, bool_type}
 use Rattle.cel_tree.specs.Checked.{CelChecked}
@@ -7,7 +7,9 @@ use Rattle.cel_tree.specs.Message.{ExprFault, ExprParts, IsExprOf}
 use Rattle.cel_types.specs.TypingFaults.{CheckFault, IsTyped}
 use Rattle.proto_wire.specs.Maps.{Entry, text}
 use Rattle.proto_wire.specs.declared.refusal.Refusal.{Refusal}
-use Rattle.proto_wire.specs.declared.refusal.Refusal.TheVariants.{NotBool, TooCostly}
+use Rattle.proto_wire.specs.declared.refusal.Refusal.TheVariants.{NotBool}
+use Rattle.cost_bound.specs.Budgets.{IsTooSmallFor}
+use Rattle.cost_bound.specs.declared.budget.Budget.{Budget}
 use Rattle.rbac_policy.specs.Condition.{IsProgramOf, Program}
 use Rattle.rbac_policy.specs.Costs.{Costs}
 use Rattle.rbac_policy.specs.Enforced.{EnforcesPolicy}
@@ -15,17 +17,17 @@ use Rattle.rbac_policy.specs.Fault.{SomeCost}
 use Rattle.rbac_policy.specs.Filter.{Policy}
 use Rattle.rbac_policy.specs.Message.{IsCondition, IsPolicy}
 
--- why a condition is not admitted if `left` steps are left
-pub data ExpressionFault (condition : CelChecked) (limits : LimitsValue) (left : ℕ) (e : Refusal)
+-- why a condition is not admitted if this is left of the budget
+pub data ExpressionFault (condition : CelChecked) (limits : LimitsValue) (left : Budget) (e : Refusal)
     : Type 0 where
   untyped : CheckFault condition e → ExpressionFault condition limits left e
   not_bool : (t : ValueType) → IsTyped condition t → t ≢ bool_type → e ≡ NotBool
       → ExpressionFault condition limits left e
-  too_costly : (cost : ℕ) → Costs limits condition cost → left < cost → e ≡ TooCostly
+  too_much : (needs : Budget) → Costs limits condition needs → IsTooSmallFor left needs e
       → ExpressionFault condition limits left e
 
 -- the same for the payloads of a condition, which may have faults
-pub data ConditionFault (parts : ExprParts) (limits : LimitsValue) (left : ℕ) (e : Refusal)
+pub data ConditionFault (parts : ExprParts) (limits : LimitsValue) (left : Budget) (e : Refusal)
     : Type 0 where
   unreadable : ExprFault parts e → ConditionFault parts limits left e
   expression : (condition : CelChecked) → IsExprOf parts condition
@@ -41,8 +43,8 @@ abbrev pub IsEnforced : LimitsValue → List (List ℕ) → Policy Program → T
 IsEnforced limits parts enforced =
     (policy : Policy CelChecked) × IsPolicy parts policy × EnforcesPolicy limits policy enforced
 
--- why policies are not admitted if `left` steps are left: their conditions cost more
-pub data ConditionsFault (policies : List (Entry text)) (limits : LimitsValue) (left : ℕ) (e : Refusal)
+-- why policies are not admitted if this is left of the budget: their conditions take more
+pub data ConditionsFault (policies : List (Entry text)) (limits : LimitsValue) (left : Budget) (e : Refusal)
     : Type 0 where
-  cost_too_much : (cost : ℕ) → SomeCost limits policies cost → left < cost → e ≡ TooCostly
+  cost_too_much : (needs : Budget) → SomeCost limits policies needs → IsTooSmallFor left needs e
       → ConditionsFault policies limits left e

@@ -34,7 +34,7 @@ _MEANINGS = {
     11: "a condition's type map names another type than the one found", 12: "a condition's reference map names something else",
     13: "the type of a condition is not bool", 14: "an empty list or map in a condition has no type",
     15: "the conditions may take more steps than the budget has", 19: "memory ran out", 20: "a condition took more steps than its bound",
-    -1: "the filter is closed", -2: "limits or a budget are out of their ranges", 400: "the request or a text of its facts is malformed",
+    -1: "the filter is closed", -2: "limits, a budget, a port, an address or a protocol are out of their ranges", 400: "the request or a text of its facts is malformed",
     431: "the request is outside the limits", 501: "the request has a Transfer-Encoding field",
 }
 
@@ -100,11 +100,32 @@ class Facts:
         for name in ("direct_remote_ip", "remote_ip", "destination_ip"):
             address = getattr(self, name)
             setattr(facts, name, _bytes_of(b"" if address is None else ipaddress.ip_address(address).packed))
-        facts.source_port = -1 if self.source_port is None else self.source_port
-        facts.destination_port = -1 if self.destination_port is None else self.destination_port
-        facts.mtls = -1 if self.mtls is None else int(self.mtls)
-        facts.connection_id, facts.has_connection_id = self.connection_id or 0, self.connection_id is not None
+        facts.source_port, facts.destination_port = _port_of(self.source_port), _port_of(self.destination_port)
+        facts.mtls = -1 if self.mtls is None else int(bool(self.mtls))
+        if self.connection_id is not None:
+            facts.connection_id, facts.has_connection_id = _in_range(self.connection_id, 2**64, "a connection's number"), True
         return facts
+
+
+_PROTOCOLS = {"HTTP/1.0": (False, 0), "HTTP/1.1": (True, 0), "HTTP/2": (True, 2), "HTTP/3": (True, 3)}
+
+
+def _protocol_of(protocol: str) -> Tuple[bool, int]:
+    """How C has the protocol."""
+    if protocol not in _PROTOCOLS:
+        raise ValueError(f"a protocol is one of {', '.join(_PROTOCOLS)}, not {protocol}")
+    return _PROTOCOLS[protocol]
+
+
+def _in_range(number: int, end: int, what: str) -> int:
+    """The number; ctypes would cut one of more bits, and another would match."""
+    if not 0 <= number < end:
+        raise ValueError(f"{what} is from 0 to {end - 1}, not {number}")
+    return number
+
+
+def _port_of(port: Optional[int]) -> int:
+    return -1 if port is None else _in_range(port, 2**16, "a port")
 
 
 def _bytes_of(text: Union[str, bytes]) -> _library.Bytes:
@@ -136,10 +157,13 @@ class Filter:
             raise Error(status)
         return other
 
-    def decide(self, method: str, target: str, lines: Lines, facts: Facts = Facts(), is_http11: bool = True) -> Decision:
-        """The decision on a request by its parts. The host is a line `host` or `:authority`. Raises Error without a decision."""
+    def decide(self, method: str, target: str, lines: Lines, facts: Facts = Facts(), is_http11: bool = True,
+               protocol: Optional[str] = None) -> Decision:
+        """The decision on a request by its parts. The host is a line `host` or `:authority`. The protocol is "HTTP/1.0", "HTTP/1.1",
+        "HTTP/2" or "HTTP/3"; without it `is_http11` says which of the first two. Raises Error without a decision."""
+        http11, number = (is_http11, 0) if protocol is None else _protocol_of(protocol)
         pairs = [_library.Line(_bytes_of(name), _bytes_of(value)) for name, value in lines]
-        request = _library.RequestInput(_bytes_of(method), _bytes_of(target), (_library.Line * len(pairs))(*pairs), len(pairs), is_http11)
+        request = _library.RequestInput(_bytes_of(method), _bytes_of(target), (_library.Line * len(pairs))(*pairs), len(pairs), http11, number)
         return self._decision(_LIBRARY.vupresal_filter_decide, ctypes.byref(request), facts=facts)
 
     def decide_head(self, head: bytes, facts: Facts = Facts()) -> Decision:

@@ -21,7 +21,7 @@ class Text(Structure):
 
 
 class Bounds(Structure):
-    _fields_ = [(name, c_size_t) for name in ("fields", "name", "value", "method", "target", "text")]
+    _fields_ = [*((name, c_size_t) for name in ("fields", "name", "value", "method", "target", "text")), ("visits", c_uint64)]
 
 
 class FactsInput(Structure):
@@ -41,7 +41,8 @@ class Line(Structure):
 
 
 class RequestInput(Structure):
-    _fields_ = [("method", Bytes), ("target", Bytes), ("lines", POINTER(Line)), ("line_count", c_size_t), ("is_http11", c_bool)]
+    _fields_ = [("method", Bytes), ("target", Bytes), ("lines", POINTER(Line)), ("line_count", c_size_t), ("is_http11", c_bool),
+                ("protocol", c_uint64)]
 
 
 class DecisionOutput(Structure):

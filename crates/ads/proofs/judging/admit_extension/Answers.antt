@@ -21,4 +21,4 @@ returns-in-Ok-clause-found c =
 pub returns-in-Err-clause-fault : goal.returns-in-Err-clause-fault
 returns-in-Err-clause-fault c = λ name xs one.
     message_refused (extension_view c.args.extension.now, one, c.in_ok-message.ensures.found)
-    (rw c.in-Err.is at c.admit_at.ensures.fault) (rw c.in-Err.is at c.admit_at.ensures.place)
+    (rw c.in-Err.is at c.admit_at.ensures.fault) c.admit_at.new.left (rw c.in-Err.is at c.admit_at.ensures.place)

@@ -116,13 +116,13 @@ pub emit_call-emit_all-requires : goal.emit_call-emit_all-requires
 emit_call-emit_all-requires t c =
     (first_of (search (rules, exprs.the_lemmas), grind (arith, exprs.the_lemmas), grind (arith, common_steps)), (plain_room c.is_junction.result c.is_choice.result c.args.depth c.requires.room.0 c.args.code.now c.args.lengths.now.items c.args.overload c.args.operands.now c.is_junction.ensures c.if-is_junction.false c.is_choice.ensures c.if-is_choice.false c.requires.room.1).operands)
 
-pub emit_call-put-requires : goal.emit_call-put-requires
-emit_call-put-requires t c =
+pub emit_call-put_call-requires : goal.emit_call-put_call-requires
+emit_call-put_call-requires t c =
     plain_put (plain_room c.is_junction.result c.is_choice.result c.args.depth c.requires.room.0 c.args.code.now c.args.lengths.now.items c.args.overload c.args.operands.now c.is_junction.ensures c.if-is_junction.false c.is_choice.ensures c.if-is_choice.false c.requires.room.1) c.in_ok-emit_all.ensures.grows
 
 pub emit_call-returns : goal.emit_call-returns
 emit_call-returns t c =
-    record { grows = λ kind. plain_grows c.is_junction.result c.is_choice.result c.args.depth kind c.args.code.now c.args.lengths.now.items c.args.overload c.args.operands.now c.emit_all.new.code c.put.new.code c.emit_all.new.lengths.items c.call_instr.result c.is_junction.ensures c.if-is_junction.false c.is_choice.ensures c.if-is_choice.false c.in_ok-emit_all.ensures.grows c.in_ok-put.ensures.found c.call_instr.ensures }
+    record { grows = λ kind. plain_grows c.is_junction.result c.is_choice.result c.args.depth kind c.args.code.now c.args.lengths.now.items c.args.overload c.args.operands.now c.emit_all.new.code c.put_call.new.code c.emit_all.new.lengths.items c.is_junction.ensures c.if-is_junction.false c.is_choice.ensures c.if-is_choice.false c.in_ok-emit_all.ensures.grows c.in_ok-put_call.ensures.found }
 
 pub emit_junction-take_targets-targets-requires : goal.emit_junction-take_targets-targets-requires
 emit_junction-take_targets-targets-requires t c =
@@ -157,8 +157,8 @@ emit_junction-emit-requires-2 t c =
     let take : (rest : List Lengths) → c.args.lengths.now.items ≡ rest ++ lengths_are (extent (expr_view c.index-operands-0.result) + 1 + extent (expr_view c.index-operands-1.result) + 1) (extent (expr_view c.index-operands-1.result)) ∷ [] → c.take_targets-targets.new.lengths.items ≡ rest = λ rest e. (c.take_targets-targets.ensures rest (extent (expr_view c.index-operands-0.result) + 1 + extent (expr_view c.index-operands-1.result) + 1) (extent (expr_view c.index-operands-1.result)) e).0 in
     (first_of (search (rules, exprs.the_lemmas), grind (arith, exprs.the_lemmas), grind (arith, common_steps)), junction_second room take c.in_ok-emit.ensures.grows c.put.new.code c.passing_over.result c.in_ok-put.ensures.found)
 
-pub emit_junction-put-requires-2 : goal.emit_junction-put-requires-2
-emit_junction-put-requires-2 t c =
+pub emit_junction-put_call-requires : goal.emit_junction-put_call-requires
+emit_junction-put_call-requires t c =
     let ops : exprs_view c.args.operands.now ≡ typed (expr_view c.index-operands-0.result) (typed (expr_view c.index-operands-1.result) no_typed) =
     two_operands c.args.operands.now c.index-operands-0.result c.index-operands-1.result _ _ (omega (arith, c.requires.two)) (omega (arith, c.requires.two)) c.index-operands-0.is c.index-operands-1.is in
     let room = junction_room c.args.depth (expr_view c.index-operands-0.result) (expr_view c.index-operands-1.result) c.requires.room.0 c.args.overload c.args.code.now c.args.lengths.now.items c.requires.junction (subst (λ l. HasRoom c.args.code.now c.args.lengths.now.items c.args.depth (typed_call c.requires.room.0 c.args.overload l)) ops c.requires.room.1) in
@@ -177,8 +177,8 @@ emit_junction-returns t c =
     let end_is = said.1 in
     let last_is = said.2 in
     record {
-      grows = λ kind. rw ops (junction_built room take c.in_ok-emit.ensures.grows c.put.new.code c.passing_over.result c.in_ok-put.ensures.found c.in_ok-emit-2.ensures.grows c.call_instr.result c.take_targets-targets.result.end kind c.args.overload c.requires.junction
-          (omega (arith, end_is, begin)) c.passing_over.ensures c.in_ok-put-2.ensures.found c.call_instr.ensures);
+      grows = λ kind. rw ops (junction_built room take c.in_ok-emit.ensures.grows c.put.new.code c.passing_over.result c.in_ok-put.ensures.found c.in_ok-emit-2.ensures.grows c.take_targets-targets.result.end kind c.args.overload c.requires.junction
+          (omega (arith, end_is, begin)) c.passing_over.ensures c.in_ok-put_call.ensures.found);
     }
 
 pub emit_choice-take_targets-targets-requires : goal.emit_choice-take_targets-targets-requires

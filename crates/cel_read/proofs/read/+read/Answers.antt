@@ -107,12 +107,11 @@ pub read_tree-returns-in-Err-clause-fault : goal.read_tree-returns-in-Err-clause
 read_tree-returns-in-Err-clause-fault t c =
     let parts : List (List ℕ) = parts_view c.args.parts.now in
     let bad = rw c.in-Err.is at c.read_own.ensures.fault in
-    elim c.fault_of_expr.ensures [
-      | inl memory ↦ inl memory
-      | inr (is, names) ↦ elim bad [
-        | inl memory ↦ inl (is ∙ memory)
-        | inr own ↦ inr (rw is (own_at c.args.depth c.args.left.now parts (path_of c.fault_of_expr.result.place) c.in-Err.refusal names own))
-      ]
+    let is = c.fault_of_expr.ensures.refusal in
+    let names = c.fault_of_expr.ensures.place in
+    elim bad [
+      | inl memory ↦ inl (is ∙ memory)
+      | inr own ↦ inr (rw is (own_at c.args.depth c.args.left.now parts (path_of c.fault_of_expr.result.place) c.in-Err.refusal names own))
     ]
 
 pub read_trees-returns-in_err-tree-clause-fault : goal.read_trees-returns-in_err-tree-clause-fault

@@ -14,8 +14,10 @@ returns-clause-app c =
     ∙ ap₂ with_rule after c.policy_arg.ensures.rule in
     let second = c.in_ok-arg-2.ensures.shape c.budget_arg.ensures.local
     ∙ ap₂ with_rule first c.budget_arg.ensures.rule in
-    IfOk-weaker c.arg-3.result _ _ (λ new adds. adds.shape c.json_arg.ensures.local
-    ∙ ap₂ with_rule second c.json_arg.ensures.rule) c.arg-3.ensures
+    let third = c.in_ok-arg-3.ensures.shape c.visits_arg.ensures.local
+    ∙ ap₂ with_rule second c.visits_arg.ensures.rule in
+    IfOk-weaker c.arg-4.result _ _ (λ new adds. adds.shape c.json_arg.ensures.local
+    ∙ ap₂ with_rule third c.json_arg.ensures.rule) c.arg-4.ensures
 
 pub returns-clause-local : goal.returns-clause-local
 returns-clause-local c =
@@ -23,7 +25,7 @@ returns-clause-local c =
     rw c.about.ensures c.new.ensures.local in
     let after : (out-Command c.after_help.result).has_globals ≡ false =
     rw c.after_help.ensures about in
-    IfOk-weaker c.arg-3.result _ _
+    IfOk-weaker c.arg-4.result _ _
     (λ new adds. adds.globals
-    ∙ rw (c.in_ok-arg-2.ensures.globals, c.in_ok-arg.ensures.globals, after, c.policy_arg.ensures.local, c.budget_arg.ensures.local, c.json_arg.ensures.local) refl)
-    c.arg-3.ensures
+    ∙ rw (c.in_ok-arg-3.ensures.globals, c.in_ok-arg-2.ensures.globals, c.in_ok-arg.ensures.globals, after, c.policy_arg.ensures.local, c.budget_arg.ensures.local, c.visits_arg.ensures.local, c.json_arg.ensures.local) refl)
+    c.arg-4.ensures

@@ -16,12 +16,14 @@ returns-clause-app c =
     ∙ ap₂ with_rule first c.facts_arg.ensures.rule in
     let third = c.in_ok-arg-3.ensures.shape c.budget_arg.ensures.local
     ∙ ap₂ with_rule second c.budget_arg.ensures.rule in
-    let fourth = c.in_ok-arg-4.ensures.shape c.json_arg.ensures.local
-    ∙ ap₂ with_rule third c.json_arg.ensures.rule in
-    let fifth = c.in_ok-arg-5.ensures.shape c.explain_arg.ensures.local
-    ∙ ap₂ with_rule fourth c.explain_arg.ensures.rule in
-    IfOk-weaker c.arg-6.result _ _ (λ new adds. adds.shape c.batch_arg.ensures.local
-    ∙ ap₂ with_rule fifth c.batch_arg.ensures.rule) c.arg-6.ensures
+    let fourth = c.in_ok-arg-4.ensures.shape c.visits_arg.ensures.local
+    ∙ ap₂ with_rule third c.visits_arg.ensures.rule in
+    let fifth = c.in_ok-arg-5.ensures.shape c.json_arg.ensures.local
+    ∙ ap₂ with_rule fourth c.json_arg.ensures.rule in
+    let sixth = c.in_ok-arg-6.ensures.shape c.explain_arg.ensures.local
+    ∙ ap₂ with_rule fifth c.explain_arg.ensures.rule in
+    IfOk-weaker c.arg-7.result _ _ (λ new adds. adds.shape c.batch_arg.ensures.local
+    ∙ ap₂ with_rule sixth c.batch_arg.ensures.rule) c.arg-7.ensures
 
 pub returns-clause-local : goal.returns-clause-local
 returns-clause-local c =
@@ -29,7 +31,7 @@ returns-clause-local c =
     rw c.about.ensures c.new.ensures.local in
     let after : (out-Command c.after_help.result).has_globals ≡ false =
     rw c.after_help.ensures about in
-    IfOk-weaker c.arg-6.result _ _
+    IfOk-weaker c.arg-7.result _ _
     (λ new adds. adds.globals
-    ∙ rw (c.in_ok-arg-5.ensures.globals, c.in_ok-arg-4.ensures.globals, c.in_ok-arg-3.ensures.globals, c.in_ok-arg-2.ensures.globals, c.in_ok-arg.ensures.globals, after, c.policy_arg.ensures.local, c.facts_arg.ensures.local, c.budget_arg.ensures.local, c.json_arg.ensures.local, c.explain_arg.ensures.local, c.batch_arg.ensures.local) refl)
-    c.arg-6.ensures
+    ∙ rw (c.in_ok-arg-6.ensures.globals, c.in_ok-arg-5.ensures.globals, c.in_ok-arg-4.ensures.globals, c.in_ok-arg-3.ensures.globals, c.in_ok-arg-2.ensures.globals, c.in_ok-arg.ensures.globals, after, c.policy_arg.ensures.local, c.facts_arg.ensures.local, c.budget_arg.ensures.local, c.visits_arg.ensures.local, c.json_arg.ensures.local, c.explain_arg.ensures.local, c.batch_arg.ensures.local) refl)
+    c.arg-7.ensures

@@ -22,5 +22,5 @@ returns-in_err-conn-clause-fault g c =
 pub returns-in-Ok-clause-found : goal.returns-in-Ok-clause-found
 returns-in-Ok-clause-found g c =
     let read = rw c.as_str.ensures.value at c.in_ok-bytes.ensures.found in
-    let admits = rw (c.largest.ensures, c.deref.ensures.value) at c.in-Ok.ensures.found.1 in
-    (_, c.in-Ok.ensures.found.0, read, c.in_ok-conn.ensures.found, admits, rw c.largest.ensures at c.in-Ok.ensures.limits, refl)
+    let admits = rw c.deref.ensures.value at c.in-Ok.ensures.found.1 in
+    (_, c.in-Ok.ensures.found.0, read, c.in_ok-conn.ensures.found, admits, c.in-Ok.ensures.limits, refl)

@@ -43,35 +43,35 @@ returns-in_err-number_at-clause-fault c =
     rw (p.1, p.2, c.in_err-number_at.ensures.fault.0)
     (present Fact.ConnectionId (get (name_of Fact.ConnectionId) (view c.args.value.now)) (λ f reported. c.in_err-number_at.ensures.fault.1 _ reported))
 
+pub returns-in_err-name_at-clause-fault : goal.returns-in_err-name_at-clause-fault
+returns-in_err-name_at-clause-fault c =
+    let p = err_from_is_err_and c.from_residual-in_err-name_at.result c.from_residual-in_err-name_at.ensures.1 in
+    rw (p.1, p.2, c.in_err-name_at.ensures.fault.0)
+    (present Fact.ConnectionRequestedServerName (get (name_of Fact.ConnectionRequestedServerName) (view c.args.value.now)) (λ f reported. c.in_err-name_at.ensures.fault.1 _ reported))
+
 pub returns-in_err-text_at-3-clause-fault : goal.returns-in_err-text_at-3-clause-fault
 returns-in_err-text_at-3-clause-fault c =
     let p = err_from_is_err_and c.from_residual-in_err-text_at-3.result c.from_residual-in_err-text_at-3.ensures.1 in
     rw (p.1, p.2, c.in_err-text_at-3.ensures.fault.0)
-    (present Fact.ConnectionRequestedServerName (get (name_of Fact.ConnectionRequestedServerName) (view c.args.value.now)) (λ f reported. c.in_err-text_at-3.ensures.fault.1 _ reported))
+    (present Fact.ConnectionTlsVersion (get (name_of Fact.ConnectionTlsVersion) (view c.args.value.now)) (λ f reported. c.in_err-text_at-3.ensures.fault.1 _ reported))
 
 pub returns-in_err-text_at-4-clause-fault : goal.returns-in_err-text_at-4-clause-fault
 returns-in_err-text_at-4-clause-fault c =
     let p = err_from_is_err_and c.from_residual-in_err-text_at-4.result c.from_residual-in_err-text_at-4.ensures.1 in
     rw (p.1, p.2, c.in_err-text_at-4.ensures.fault.0)
-    (present Fact.ConnectionTlsVersion (get (name_of Fact.ConnectionTlsVersion) (view c.args.value.now)) (λ f reported. c.in_err-text_at-4.ensures.fault.1 _ reported))
+    (present Fact.ConnectionSubjectPeerCertificate (get (name_of Fact.ConnectionSubjectPeerCertificate) (view c.args.value.now)) (λ f reported. c.in_err-text_at-4.ensures.fault.1 _ reported))
 
 pub returns-in_err-text_at-5-clause-fault : goal.returns-in_err-text_at-5-clause-fault
 returns-in_err-text_at-5-clause-fault c =
     let p = err_from_is_err_and c.from_residual-in_err-text_at-5.result c.from_residual-in_err-text_at-5.ensures.1 in
     rw (p.1, p.2, c.in_err-text_at-5.ensures.fault.0)
-    (present Fact.ConnectionSubjectPeerCertificate (get (name_of Fact.ConnectionSubjectPeerCertificate) (view c.args.value.now)) (λ f reported. c.in_err-text_at-5.ensures.fault.1 _ reported))
+    (present Fact.ConnectionDnsSanPeerCertificate (get (name_of Fact.ConnectionDnsSanPeerCertificate) (view c.args.value.now)) (λ f reported. c.in_err-text_at-5.ensures.fault.1 _ reported))
 
 pub returns-in_err-text_at-6-clause-fault : goal.returns-in_err-text_at-6-clause-fault
 returns-in_err-text_at-6-clause-fault c =
     let p = err_from_is_err_and c.from_residual-in_err-text_at-6.result c.from_residual-in_err-text_at-6.ensures.1 in
     rw (p.1, p.2, c.in_err-text_at-6.ensures.fault.0)
-    (present Fact.ConnectionDnsSanPeerCertificate (get (name_of Fact.ConnectionDnsSanPeerCertificate) (view c.args.value.now)) (λ f reported. c.in_err-text_at-6.ensures.fault.1 _ reported))
-
-pub returns-in_err-text_at-7-clause-fault : goal.returns-in_err-text_at-7-clause-fault
-returns-in_err-text_at-7-clause-fault c =
-    let p = err_from_is_err_and c.from_residual-in_err-text_at-7.result c.from_residual-in_err-text_at-7.ensures.1 in
-    rw (p.1, p.2, c.in_err-text_at-7.ensures.fault.0)
-    (present Fact.ConnectionUriSanPeerCertificate (get (name_of Fact.ConnectionUriSanPeerCertificate) (view c.args.value.now)) (λ f reported. c.in_err-text_at-7.ensures.fault.1 _ reported))
+    (present Fact.ConnectionUriSanPeerCertificate (get (name_of Fact.ConnectionUriSanPeerCertificate) (view c.args.value.now)) (λ f reported. c.in_err-text_at-6.ensures.fault.1 _ reported))
 
 pub returns-in_err-address_at-clause-fault : goal.returns-in_err-address_at-clause-fault
 returns-in_err-address_at-clause-fault c =

@@ -4,7 +4,7 @@ use Rattle.std.specs.Io.KnownBytes.{Appends}
 use Rattle.attributes.specs.Conn.{conn_view}
 use Rattle.rbac_policy.specs.Admitted.{filter_view}
 use Rattle.rbac_judge.specs.Batches.{Answer, Answered, answers_text}
-use Rattle.rbac_judge.specs.private.Batching.{OfPolicies}
+use Rattle.rbac_judge.specs.Batches.{OfPolicies}
 use Rattle.rbac_judge.proofs.batch.batch.Given as goal
 
 abbrev pub invariant-loop-number : goal.invariant-loop-number

@@ -10,9 +10,11 @@ use Rattle.proto_wire.specs.declared.refusal.Refusal.{Refusal}
 use Rattle.proto_wire.specs.declared.refusal.Refusal.TheVariants.{OutOfRange, TooLarge, Unsupported}
 use Rattle.proto_wire.proofs.Exits.{memory_or_weaker}
 use Rattle.proto_wire.proofs.PlaceExits.{exit_known, exit_memory_or, exit_new_or, exit_with}
+use Rattle.cost_bound.specs.declared.budget.Budget.{Budget}
 use Rattle.rbac_policy.specs.Admitted.{filter_rules_view}
+use Rattle.rbac_policy.specs.Budget.{OverInRules}
 use Rattle.rbac_policy.specs.Condition.{Program}
-use Rattle.rbac_policy.specs.Enforced.{bounds_of, total_bound}
+use Rattle.rbac_policy.specs.Enforced.{policies_need, total_needs}
 use Rattle.rbac_policy.specs.Filter.{Policy}
 use Rattle.rbac_policy.specs.Keys.{rules_field}
 use Rattle.rbac_policy.specs.Message.{IsPolicy, most_policies}
@@ -26,38 +28,38 @@ use Rattle.proto_wire.proofs.MapLaws.{entries_readable}
 use Rattle.proto_wire.proofs.MapValues.{held_ordered, held_are_values}
 use Rattle.rbac_policy.proofs.Besides.{sorted_beside}
 use Rattle.rbac_policy.proofs.Enforcing.{apart, filter_enforced, total_of}
-use Rattle.rbac_policy.proofs.Places.{fields_at, fields_own}
+use Rattle.rbac_policy.proofs.Places.{fields_at, fields_in, fields_own}
 use Rattle.rbac_policy.proofs.Totality.{as_many}
 use Rattle.rbac_policy.proofs.admission.read_rules.Goals as goal
 
 -- what is wrong with the rules
-abbrev Fails : List Wire → LimitsValue → ℕ → Refusal → Type 0
+abbrev Fails : List Wire → LimitsValue → Budget → Refusal → Type 0
 Fails fs limits budget e = RulesFault fs e ⊎ ((read : List (Entry text)) × Readable text (payloads rules_field.policies fs) read
     × ConditionsFault (entries (map_of text read)) limits budget e)
 
 pub returns-in_err-refuse_audit_options-clause-fault : goal.returns-in_err-refuse_audit_options-clause-fault
 returns-in_err-refuse_audit_options-clause-fault c =
     let bad = c.in_err-refuse_audit_options.ensures.fault in
-    exit_known (Fails (map field_view c.args.fields.now) c.args.limits.now c.args.budget) c.from_residual.result
+    exit_known (Fails (map field_view c.args.fields.now) c.args.limits.now c.args.left.now) c.from_residual.result
     c.in_err-refuse_audit_options.field-0.0 c.from_residual.ensures.1 (inl (audited bad.1 bad.0.0))
 
 pub returns-in_err-action-clause-fault : goal.returns-in_err-action-clause-fault
 returns-in_err-action-clause-fault c =
     let bad = c.in_err-action.ensures in
-    exit_known (Fails (map field_view c.args.fields.now) c.args.limits.now c.args.budget) c.from_residual-in_err-action.result
+    exit_known (Fails (map field_view c.args.fields.now) c.args.limits.now c.args.left.now) c.from_residual-in_err-action.result
     c.in_err-action.field-0.0 c.from_residual-in_err-action.ensures.1 (inl (bad_action bad.1 bad.0.0))
 
 pub returns-in_err-named-clause-fault : goal.returns-in_err-named-clause-fault
 returns-in_err-named-clause-fault c =
     let fs : List Wire = map field_view c.args.fields.now in
     let parts : parts_view c.deref.result.now ≡ payloads rules_field.policies fs = ap parts_view c.deref.ensures ∙ c.in_ok-entries.ensures in
-    exit_new_or (SomeEntryFault text (payloads rules_field.policies fs)) (Fails fs c.args.limits.now c.args.budget)
+    exit_new_or (SomeEntryFault text (payloads rules_field.policies fs)) (Fails fs c.args.limits.now c.args.left.now)
     c.from_residual-in_err-named.result _ c.from_residual-in_err-named.ensures.1 (rw parts at c.in_err-named.ensures.fault)
     (λ e bad. inl (in_policies (in_entry bad)))
 
 pub returns-in_err-refuse_many-clause-fault : goal.returns-in_err-refuse_many-clause-fault
 returns-in_err-refuse_many-clause-fault c =
-    let F : Refusal → Type 0 = Fails (map field_view c.args.fields.now) c.args.limits.now c.args.budget in
+    let F : Refusal → Type 0 = Fails (map field_view c.args.fields.now) c.args.limits.now c.args.left.now in
     let parts : parts_view c.deref.result.now ≡ payloads rules_field.policies (map field_view c.args.fields.now) = ap parts_view c.deref.ensures ∙ c.in_ok-entries.ensures in
     let es : List (Entry text) = c.in_ok-named.ensures.found.0 in
     let read : AreEntries text (payloads rules_field.policies (map field_view c.args.fields.now)) es = rw parts at c.in_ok-named.ensures.found.1 in
@@ -76,8 +78,8 @@ returns-in_err-policies-clause-fault c =
     let es : List (Entry text) = c.in_ok-named.ensures.found.0 in
     let read : AreEntries text (payloads rules_field.policies fs) es = rw parts at c.in_ok-named.ensures.found.1 in
     let readable : Readable text (payloads rules_field.policies fs) es = entries_readable text _ es read in
-    exit_memory_or (λ e. SomeValueFault text PolicyFault (entries (map_of text es)) e ⊎ ConditionsFault (entries (map_of text es)) c.args.limits.now c.args.budget e)
-    (Fails fs c.args.limits.now c.args.budget)
+    exit_memory_or (λ e. SomeValueFault text PolicyFault (entries (map_of text es)) e ⊎ ConditionsFault (entries (map_of text es)) c.args.limits.now c.args.left.now e)
+    (Fails fs c.args.limits.now c.args.left.now)
     c.from_residual-in_err-policies.result c.in_err-policies.field-0.0 c.from_residual-in_err-policies.ensures.1
     (rw (c.deref-2.ensures.value, c.in_ok-named.ensures.found.2) at c.in_err-policies.ensures.fault)
     (λ e bad. elim bad [
@@ -119,36 +121,34 @@ returns-clause-found c =
       rw (c.new.ensures, c.shrink.ensures) (filter_enforced c.args.limits.now c.in_ok-action.action split.0 vs split.2),
     )
 
-pub returns-clause-cheap : goal.returns-clause-cheap
-returns-clause-cheap c =
+pub returns-clause-covered : goal.returns-clause-covered
+returns-clause-covered c =
     let es : List (Entry text) = c.in_ok-named.ensures.found.0 in
     let named : FinMap name_cmp (List (List ℕ)) = map_of text es in
     let vs : List (List ℕ × Policy Program) = named_views c.read_policies.new.list c.in_ok-policies.policies.items in
     let held : Held text (IsEnforced c.args.limits.now) (entries named) vs = rw (c.deref-2.ensures.value, c.in_ok-named.ensures.found.2) at c.in_ok-policies.ensures.found in
     let sorted : T (is_sorted name_cmp vs) = subst T (sorted_beside (IsEnforced c.args.limits.now) (entries named) vs held) (entries_sorted named) in
     let sum = total_of c.args.limits.now c.in_ok-action.action vs sorted in
-    let cost = c.in_ok-policies.ensures.cost in
-    let cheap = c.in_ok-policies.ensures.cheap in
-    let total : total_bound (filter_rules_view c.new.result) ≡ bounds_of vs = ap total_bound (rw c.shrink.ensures at c.new.ensures) ∙ sum in
-    omega (arith, total, cost, cheap)
+    let total : total_needs (filter_rules_view c.new.result) ≡ policies_need vs = ap total_needs (rw c.shrink.ensures at c.new.ensures) ∙ sum in
+    rw total c.in_ok-policies.ensures.covered
 
 pub returns-in_err-refuse_audit_options-clause-place : goal.returns-in_err-refuse_audit_options-clause-place
 returns-in_err-refuse_audit_options-clause-place c =
     let bad = c.in_err-refuse_audit_options.ensures.fault in
-    fields_at (map field_view c.args.fields.now) rules_field.audit_logging_options Unsupported c.from_residual.result
+    fields_at (OverInRules c.args.limits.now c.args.left.now c.args.left.now (map field_view c.args.fields.now)) (map field_view c.args.fields.now) rules_field.audit_logging_options Unsupported c.from_residual.result
     c.in_err-refuse_audit_options.field-0.0 c.from_residual.ensures.1 bad.0 (audited bad.1 refl)
 
 pub returns-in_err-action-clause-place : goal.returns-in_err-action-clause-place
 returns-in_err-action-clause-place c =
     let bad = c.in_err-action.ensures in
-    fields_at (map field_view c.args.fields.now) rules_field.action OutOfRange c.from_residual-in_err-action.result
+    fields_at (OverInRules c.args.limits.now c.args.left.now c.args.left.now (map field_view c.args.fields.now)) (map field_view c.args.fields.now) rules_field.action OutOfRange c.from_residual-in_err-action.result
     c.in_err-action.field-0.0 c.from_residual-in_err-action.ensures.1 bad.0 (bad_action bad.1 refl)
 
 pub returns-in_err-named-clause-place : goal.returns-in_err-named-clause-place
 returns-in_err-named-clause-place c =
     let fs : List Wire = map field_view c.args.fields.now in
     let parts : parts_view c.deref.result.now ≡ payloads rules_field.policies fs = ap parts_view c.deref.ensures ∙ c.in_ok-entries.ensures in
-    fields_own fs c.from_residual-in_err-named.result _ c.from_residual-in_err-named.ensures.1
+    fields_own (OverInRules c.args.limits.now c.args.left.now c.args.left.now (map field_view c.args.fields.now)) fs c.from_residual-in_err-named.result _ c.from_residual-in_err-named.ensures.1
     (memory_or_weaker (SomeEntryFault text (payloads rules_field.policies fs)) (RulesFault fs) _ (λ e bad. in_policies (in_entry bad))
     (rw parts at c.in_err-named.ensures.fault))
 
@@ -163,7 +163,7 @@ returns-in_err-refuse_many-clause-place c =
     let above : most_policies < c.len.result = bad.1 in
     let count : c.len.result ≡ length c.in_ok-named.named.items = c.len.ensures ∙ c.in_ok-named.named.ok.0 in
     let many : most_policies < len (map_of text es) = omega (arith, size, count, above) in
-    fields_at fs rules_field.policies TooLarge c.from_residual-in_err-refuse_many.result c.in_err-refuse_many.field-0.0
+    fields_at (OverInRules c.args.limits.now c.args.left.now c.args.left.now (map field_view c.args.fields.now)) fs rules_field.policies TooLarge c.from_residual-in_err-refuse_many.result c.in_err-refuse_many.field-0.0
     c.from_residual-in_err-refuse_many.ensures.1 bad.0 (too_many es (entries_readable text _ es read) many refl)
 
 pub returns-in_err-policies-clause-place : goal.returns-in_err-policies-clause-place
@@ -173,5 +173,7 @@ returns-in_err-policies-clause-place c =
     let es : List (Entry text) = c.in_ok-named.ensures.found.0 in
     let read : AreEntries text (payloads rules_field.policies fs) es = rw parts at c.in_ok-named.ensures.found.1 in
     let readable : Readable text (payloads rules_field.policies fs) es = entries_readable text _ es read in
-    exit_with (FieldsOr fs) c.from_residual-in_err-policies.result c.in_err-policies.field-0.0 c.from_residual-in_err-policies.ensures.1
-    (inr (inr (es, readable, rw (c.deref-2.ensures.value, c.in_ok-named.ensures.found.2) at c.in_err-policies.ensures.place)))
+    exit_with (FieldsOr (OverInRules c.args.limits.now c.args.left.now c.read_policies.new.left fs) fs)
+    c.from_residual-in_err-policies.result c.in_err-policies.field-0.0 c.from_residual-in_err-policies.ensures.1
+    (fields_in c.args.limits.now c.args.left.now c.read_policies.new.left fs es c.in_err-policies.field-0.0 readable
+    (rw (c.deref-2.ensures.value, c.in_ok-named.ensures.found.2) at c.in_err-policies.ensures.place))

@@ -2,6 +2,7 @@ use Rattle.std.proofs.Common.{◌≡◌, ◌∙◌, sym, to_z, of_z, w64, rules}
 use Rattle.cel_tree.specs.View.{checked_view}
 use Rattle.cel_types.specs.TypingFaults.{CheckFault}
 use Rattle.proto_wire.proofs.PlaceExits.{exit_memory_or, exit_with}
+use Rattle.rbac_policy.specs.Budget.{OverIn}
 use Rattle.rbac_policy.specs.Places.{NodeOr}
 use Rattle.rbac_policy.specs.private.Conditions.{ExpressionFault, untyped}
 use Rattle.rbac_policy.proofs.Places.{untyped_node}
@@ -20,9 +21,9 @@ returns-in_err-typed-clause-fault c =
 
 pub returns-in_err-typed-clause-place : goal.returns-in_err-typed-clause-place
 returns-in_err-typed-clause-place c =
-    exit_with (NodeOr (checked_view c.args.checked.now)) c.from_residual.result c.in_err-typed.field-0.0
+    exit_with (NodeOr (OverIn c.args.limits.now c.args.left (checked_view c.args.checked.now)) (checked_view c.args.checked.now)) c.from_residual.result c.in_err-typed.field-0.0
     c.from_residual.ensures.1
-    (untyped_node (checked_view c.args.checked.now) c.in_err-typed.field-0.0 c.in_err-typed.ensures.place)
+    (untyped_node (OverIn c.args.limits.now c.args.left (checked_view c.args.checked.now)) (checked_view c.args.checked.now) c.in_err-typed.field-0.0 c.in_err-typed.ensures.place)
 
 pub returns-clause-found : goal.returns-clause-found
 returns-clause-found c =

@@ -9,5 +9,5 @@ returns-in-Err-clause-fault c =
 
 pub returns-in-Err-clause-place : goal.returns-in-Err-clause-place
 returns-in-Err-clause-place c =
-    condition_out (map field_view c.args.fields.now) c.condition_number.result c.in-Err.fault c.inside.result
+    condition_out c.args.limits.now c.args.left (map field_view c.args.fields.now) c.condition_number.result c.in-Err.fault c.inside.result
     (rw c.in-Err.is at c.read_condition.ensures.place) c.condition_number.ensures c.inside.ensures

@@ -1,10 +1,12 @@
-use Rattle.std.proofs.Common.{◌≤◌, Some, Ok, Err, map}
+use Rattle.std.proofs.Common.{Some, Ok, Err, map}
 use Rattle.proto_wire.specs.Fields.{field_view}
 use Rattle.proto_wire.specs.Places.{FaultOr}
 use Rattle.proto_wire.proofs.PlaceExits.{exit_memory_or, exit_with}
 use Rattle.cel_tree.specs.Message.{ExprFault, ExprParts, ArePresent}
 use Rattle.cel_tree.specs.View.{checked_view}
 use Rattle.rbac_policy.specs.Message.{condition_in}
+use Rattle.cost_bound.specs.Budgets.{Covers}
+use Rattle.rbac_policy.specs.Budget.{OverInCondition}
 use Rattle.rbac_policy.specs.Places.{ConditionPartOr}
 use Rattle.rbac_policy.specs.private.Conditions.{ConditionFault, ExpressionFault, expression, unreadable}
 use Rattle.rbac_policy.specs.Condition.{IsProgramOf}
@@ -25,7 +27,7 @@ returns-in_err-checked-clause-fault c =
 pub returns-in_err-checked-clause-place : goal.returns-in_err-checked-clause-place
 returns-in_err-checked-clause-place c =
     let parts : ExprParts = condition_in (map field_view c.args.fields.now) in
-    expr_exit parts c.from_residual.result c.in_err-checked.field-0.0 c.from_residual.ensures.1
+    expr_exit (OverInCondition c.args.limits.now c.args.left parts) parts c.from_residual.result c.in_err-checked.field-0.0 c.from_residual.ensures.1
     c.if-not-has_condition.ensures c.in_err-checked.ensures.place
 
 pub returns-in_err-condition-clause-fault : goal.returns-in_err-condition-clause-fault
@@ -42,9 +44,9 @@ returns-in_err-condition-clause-fault c =
 pub returns-in_err-condition-clause-place : goal.returns-in_err-condition-clause-place
 returns-in_err-condition-clause-place c =
     let parts : ExprParts = condition_in (map field_view c.args.fields.now) in
-    exit_with (ConditionPartOr parts) c.from_residual-in_err-condition.result c.in_err-condition.field-0.0
+    exit_with (ConditionPartOr (OverInCondition c.args.limits.now c.args.left parts) parts) c.from_residual-in_err-condition.result c.in_err-condition.field-0.0
     c.from_residual-in_err-condition.ensures.1
-    (node_out parts (checked_view c.in_ok-checked.checked) c.condition_of.result (Err c.in_err-condition.field-0.0)
+    (node_out c.args.limits.now c.args.left parts (checked_view c.in_ok-checked.checked) c.condition_of.result (Err c.in_err-condition.field-0.0)
     c.in_err-condition.ensures c.if-not-has_condition.ensures c.in_ok-checked.ensures.found c.condition_of.ensures.place)
 
 pub returns-clause-found : goal.returns-clause-found
@@ -57,7 +59,7 @@ returns-clause-found c =
           (Ok c.in_ok-condition.condition) c.in_ok-condition.ensures c.condition_of.ensures.found,
     )
 
-pub returns-clause-cheap : goal.returns-clause-cheap
-returns-clause-cheap c =
-    of_expr_found (condition_in (map field_view c.args.fields.now)) (λ made. made.bound ≤ c.args.left) c.condition_of.result
-    (Ok c.in_ok-condition.condition) c.in_ok-condition.ensures c.condition_of.ensures.cheap
+pub returns-clause-covered : goal.returns-clause-covered
+returns-clause-covered c =
+    of_expr_found (condition_in (map field_view c.args.fields.now)) (λ made. Covers c.args.left made.needs) c.condition_of.result
+    (Ok c.in_ok-condition.condition) c.in_ok-condition.ensures c.condition_of.ensures.covered

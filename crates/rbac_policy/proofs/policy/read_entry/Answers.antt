@@ -1,10 +1,11 @@
 use Rattle.proto_wire.specs.Merge.{parts_view}
-use Rattle.std.proofs.Common.{◌⊎◌, ◌≡◌, ◌≤◌, ◌++◌, ◌∷◌, [], ℕ, List, option_map}
+use Rattle.std.proofs.Common.{◌⊎◌, ◌≡◌, ◌++◌, ◌∷◌, [], ℕ, List, option_map}
 use Rattle.std.specs.String.{string_bytes}
 use Rattle.proto_wire.specs.declared.refusal.Refusal.{Refusal}
 use Rattle.proto_wire.proofs.PlaceExits.{placed_fault, placed_found}
 use Rattle.rbac_match.specs.Tokens.{GoesOn, Token}
-use Rattle.rbac_policy.specs.Enforced.{bound_of}
+use Rattle.cost_bound.specs.Budgets.{Covers}
+use Rattle.rbac_policy.specs.Enforced.{program_needs}
 use Rattle.rbac_policy.specs.Fault.{PolicyFault}
 use Rattle.rbac_policy.specs.Keys.{rules_field}
 use Rattle.rbac_policy.specs.Named.{policy_view, program_view}
@@ -19,7 +20,7 @@ returns-clause-kept c =
 
 pub returns-clause-place : goal.returns-clause-place
 returns-clause-place c =
-    entry_out c.args.number (c.args.entry.now.0.now, parts_view c.args.entry.now.1.items)
+    entry_out c.args.limits.now c.args.left c.args.number (c.args.entry.now.0.now, parts_view c.args.entry.now.1.items)
     c.read_policy.result c.inside_field.result c.inside_field.ensures
     (rw c.deref.ensures at c.read_policy.ensures.place)
 
@@ -34,10 +35,10 @@ returns-clause-found c =
     (policy_view (c.read_policy.new.list ++ more) policy)) rules_field.policies c.args.number
     c.read_policy.result c.inside_field.result c.inside_field.ensures (rw c.deref.ensures at c.read_policy.ensures.found)
 
-pub returns-clause-cheap : goal.returns-clause-cheap
-returns-clause-cheap c =
-    placed_found (λ policy. bound_of (option_map program_view policy.condition) ≤ c.args.left) rules_field.policies c.args.number
-    c.read_policy.result c.inside_field.result c.inside_field.ensures c.read_policy.ensures.cheap
+pub returns-clause-covered : goal.returns-clause-covered
+returns-clause-covered c =
+    placed_found (λ policy. Covers c.args.left (program_needs (option_map program_view policy.condition))) rules_field.policies c.args.number
+    c.read_policy.result c.inside_field.result c.inside_field.ensures c.read_policy.ensures.covered
 
 pub returns-clause-fault : goal.returns-clause-fault
 returns-clause-fault c =

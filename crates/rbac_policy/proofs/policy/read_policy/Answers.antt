@@ -16,6 +16,8 @@ use Rattle.rbac_policy.specs.Keys.{policy_keys, policy_field}
 use Rattle.cel_tree.specs.Message.{ExprParts, ArePresent}
 use Rattle.rbac_policy.specs.Message.{rule_depth, condition_in}
 use Rattle.rbac_policy.specs.Fault.{PolicyFault, policy_fields, lacks_side, both_conditions, in_permission, in_principal}
+use Rattle.cost_bound.specs.declared.budget.Budget.{Budget}
+use Rattle.rbac_policy.specs.Budget.{OverInPolicy}
 use Rattle.rbac_policy.specs.Named.{program_view}
 use Rattle.rbac_policy.specs.Places.{PlacedOr, of_policy}
 use Rattle.rbac_policy.specs.private.Conditions.{ConditionFault, ConditionsFault, HasProgram}
@@ -24,7 +26,7 @@ use Rattle.rbac_policy.proofs.Spending.{condition_fails}
 use Rattle.rbac_policy.proofs.policy.read_policy.Goals as goal
 
 -- what is wrong with the policy
-abbrev Fails : List ℕ → List (List ℕ) → LimitsValue → ℕ → Refusal → Type 0
+abbrev Fails : List ℕ → List (List ℕ) → LimitsValue → Budget → Refusal → Type 0
 Fails name parts limits left e = PolicyFault parts e ⊎ ConditionsFault ((name, parts) ∷ []) limits left e
 
 pub returns-in_err-fields-clause-fault : goal.returns-in_err-fields-clause-fault
@@ -108,15 +110,15 @@ returns-clause-kept c = goes_on_more c.args.list.now c.read_rules_at.new.list c.
 pub returns-in_err-fields-clause-place : goal.returns-in_err-fields-clause-place
 returns-in_err-fields-clause-place c =
     let parts : List (List ℕ) = parts_view c.args.parts.now in
-    exit_here (of_policy parts) c.from_residual.result c.in_err-fields.field-0.0 c.from_residual.ensures.1
+    exit_here (OverInPolicy c.args.limits.now c.args.left (parts_view c.args.parts.now)) (of_policy parts) c.from_residual.result c.in_err-fields.field-0.0 c.from_residual.ensures.1
     (no_steps _ _ c.in_err-fields.field-0.0 c.in_err-fields.ensures.place)
-    (or_part (MessageFault policy_keys parts) (of_policy parts) c.in_err-fields.field-0.0.refusal (λ d bad. policy_fields bad) c.in_err-fields.ensures.fault)
+    (or_part (OverInPolicy c.args.limits.now c.args.left (parts_view c.args.parts.now)) (MessageFault policy_keys parts) (of_policy parts) c.in_err-fields.field-0.0 (λ d bad. policy_fields bad) c.in_err-fields.ensures.fault)
 
 pub returns-in_err-refuse_both-clause-place : goal.returns-in_err-refuse_both-clause-place
 returns-in_err-refuse_both-clause-place c =
     let fs : List Wire = map field_view c.in_ok-fields.fields.items in
     let bad = rw c.deref.ensures at c.in_err-refuse_both.ensures.fault in
-    exit_own (of_policy (parts_view c.args.parts.now)) c.from_residual-in_err-refuse_both.result _ c.from_residual-in_err-refuse_both.ensures.1
+    exit_own (OverInPolicy c.args.limits.now c.args.left (parts_view c.args.parts.now)) (of_policy (parts_view c.args.parts.now)) c.from_residual-in_err-refuse_both.result _ c.from_residual-in_err-refuse_both.ensures.1
     (both_conditions fs c.in_ok-fields.ensures.found.0 bad.1 bad.2 bad.0)
 
 pub returns-in_err-require_sides-clause-place : goal.returns-in_err-require_sides-clause-place
@@ -124,29 +126,29 @@ returns-in_err-require_sides-clause-place c =
     let fs : List Wire = map field_view c.in_ok-fields.fields.items in
     let message : IsMessage policy_keys (parts_view c.args.parts.now) fs = c.in_ok-fields.ensures.found in
     let bad = rw c.deref-2.ensures at c.in_err-require_sides.ensures.fault in
-    exit_own (of_policy (parts_view c.args.parts.now)) c.from_residual-in_err-require_sides.result _ c.from_residual-in_err-require_sides.ensures.1
+    exit_own (OverInPolicy c.args.limits.now c.args.left (parts_view c.args.parts.now)) (of_policy (parts_view c.args.parts.now)) c.from_residual-in_err-require_sides.result _ c.from_residual-in_err-require_sides.ensures.1
     (lacks_side fs message bad.0 bad.1)
 
 pub returns-in_err-permissions-clause-place : goal.returns-in_err-permissions-clause-place
 returns-in_err-permissions-clause-place c =
     let fs : List Wire = map field_view c.in_ok-fields.fields.items in
-    exit_with (PlacedOr (of_policy (parts_view c.args.parts.now))) c.from_residual-in_err-permissions.result c.in_err-permissions.field-0.0
+    exit_with (PlacedOr (OverInPolicy c.args.limits.now c.args.left (parts_view c.args.parts.now)) (of_policy (parts_view c.args.parts.now))) c.from_residual-in_err-permissions.result c.in_err-permissions.field-0.0
     c.from_residual-in_err-permissions.ensures.1
-    (from_side Permission (parts_view c.args.parts.now) fs c.in_err-permissions.field-0.0 c.in_ok-fields.ensures.found.0
+    (from_side (OverInPolicy c.args.limits.now c.args.left (parts_view c.args.parts.now)) Permission (parts_view c.args.parts.now) fs c.in_err-permissions.field-0.0 c.in_ok-fields.ensures.found.0
     (rw c.deref-3.ensures at c.in_err-permissions.ensures.fault))
 
 pub returns-in_err-principals-clause-place : goal.returns-in_err-principals-clause-place
 returns-in_err-principals-clause-place c =
     let fs : List Wire = map field_view c.in_ok-fields.fields.items in
-    exit_with (PlacedOr (of_policy (parts_view c.args.parts.now))) c.from_residual-in_err-principals.result c.in_err-principals.field-0.0
+    exit_with (PlacedOr (OverInPolicy c.args.limits.now c.args.left (parts_view c.args.parts.now)) (of_policy (parts_view c.args.parts.now))) c.from_residual-in_err-principals.result c.in_err-principals.field-0.0
     c.from_residual-in_err-principals.ensures.1
-    (from_side Principal (parts_view c.args.parts.now) fs c.in_err-principals.field-0.0 c.in_ok-fields.ensures.found.0
+    (from_side (OverInPolicy c.args.limits.now c.args.left (parts_view c.args.parts.now)) Principal (parts_view c.args.parts.now) fs c.in_err-principals.field-0.0 c.in_ok-fields.ensures.found.0
     (rw c.deref-4.ensures at c.in_err-principals.ensures.fault))
 
 pub returns-in_err-condition-clause-place : goal.returns-in_err-condition-clause-place
 returns-in_err-condition-clause-place c =
     let fs : List Wire = map field_view c.in_ok-fields.fields.items in
-    exit_with (PlacedOr (of_policy (parts_view c.args.parts.now))) c.from_residual-in_err-condition.result c.in_err-condition.field-0.0
+    exit_with (PlacedOr (OverInPolicy c.args.limits.now c.args.left (parts_view c.args.parts.now)) (of_policy (parts_view c.args.parts.now))) c.from_residual-in_err-condition.result c.in_err-condition.field-0.0
     c.from_residual-in_err-condition.ensures.1
-    (from_conditions (parts_view c.args.parts.now) fs c.in_err-condition.field-0.0 c.in_ok-fields.ensures.found.0
+    (from_conditions c.args.limits.now c.args.left (parts_view c.args.parts.now) fs c.in_err-condition.field-0.0 c.in_ok-fields.ensures.found.0
     (rw c.deref-5.ensures at c.in_err-condition.ensures.place))

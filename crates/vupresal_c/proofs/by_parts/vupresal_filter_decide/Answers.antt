@@ -1,10 +1,8 @@
 use Rattle.std.proofs.Common.{rules, ◌≡◌, ◌∙◌, refl, sym, arith, to_z, of_z, to_z-of_z, w32}
 use Rattle.std.specs.Arc.{arc_value}
-use Rattle.c_inputs.specs.Facts.{facts_given}
-use Rattle.c_inputs.specs.Requests.{parts_given}
-use Rattle.vupresal_c.specs.Decisions.{AsksByParts, too_long}
+use Rattle.vupresal_c.specs.Decisions.{AsksByParts, PartsFailFor, too_long}
 use Rattle.vupresal_c.specs.declared.fault.Fault.TheVariants.{Empty}
-use Rattle.vupresal_c.proofs.Deciding.{decided, reported}
+use Rattle.vupresal_c.proofs.Deciding.{decided, no_decision, reported}
 use Rattle.vupresal_c.proofs.by_parts.vupresal_filter_decide.Goals as goal
 
 pub returns-in-None-clause-fault : goal.returns-in-None-clause-fault
@@ -16,7 +14,7 @@ pub returns-in-Some-clause-found : goal.returns-in-Some-clause-found
 returns-in-Some-clause-found c =
     let same : to_z w32 (of_z w32 c.answered.result) ≡ c.answered.result = search rules in
     λ is. rw c.in-Some.ensures.taken (decided c.decide_parts-answer.result
-    (AsksByParts (parts_given c.args.request.now) (facts_given c.args.facts.now)) (arc_value c.in-Some.owner.value) _ _
+    (AsksByParts c.args.request.now c.args.facts.now) (arc_value c.in-Some.owner.value) _ _
     c.answered.ensures.found c.answered.ensures.fault (rw (c.deref-in-Some.ensures, c.deref.ensures) at c.decide_parts-answer.ensures.found)
     (sym same ∙ is))
 
@@ -25,3 +23,14 @@ returns-in-Some-clause-long c =
     let same : to_z w32 (of_z w32 c.answered.result) ≡ c.answered.result = search rules in
     λ long. same ∙ reported c.decide_parts-answer.result too_long _ _ c.answered.ensures.fault
     (c.decide_parts-answer.ensures.long (rw (c.in-Some.ensures.taken, ← c.deref.ensures, ← c.deref-in-Some.ensures) at long))
+
+pub returns-in-Some-clause-fault : goal.returns-in-Some-clause-fault
+returns-in-Some-clause-fault c =
+    let same : to_z w32 (of_z w32 c.answered.result) ≡ c.answered.result = search rules in
+    λ fails. rw c.in-Some.ensures.taken (
+    let found = no_decision c.decide_parts-answer.result
+    (PartsFailFor c.args.request.now c.args.facts.now (arc_value c.in-Some.owner.value)) _ _ c.answered.ensures.found
+    c.answered.ensures.fault (rw (c.deref-in-Some.ensures, c.deref.ensures) at c.decide_parts-answer.ensures.fault)
+    (λ is. fails (same ∙ is)) in
+    (found.0, found.1, same ∙ found.2)
+    )

@@ -22,7 +22,7 @@ end_of-method-requires c =
     let joined : kept ≡ entries (headers_of (es ++ own_entries method target facts.scheme)) =
     c.in_ok-headers.ensures.joined ∙ ap (λ (ds : List Entry). entries (headers_of ds))
     (rw (c.as_str.ensures.value, c.deref-2.ensures) at c.in_ok-add_own.ensures.entries) in
-    method_there es method target c.args.http11 facts kept joined
+    method_there es method target c.args.protocol facts kept joined
 
 pub end_of-target-requires : goal.end_of-target-requires
 end_of-target-requires c =
@@ -35,7 +35,7 @@ end_of-target-requires c =
     let joined : kept ≡ entries (headers_of (es ++ own_entries method target facts.scheme)) =
     c.in_ok-headers.ensures.joined ∙ ap (λ (ds : List Entry). entries (headers_of ds))
     (rw (c.as_str.ensures.value, c.deref-2.ensures) at c.in_ok-add_own.ensures.entries) in
-    target_there es method target c.args.http11 facts kept joined
+    target_there es method target c.args.protocol facts kept joined
 
 pub text_of-requires : goal.text_of-requires
 text_of-requires c =
@@ -48,7 +48,7 @@ text_of-requires c =
     let joined : kept ≡ entries (headers_of (es ++ own_entries method target facts.scheme)) =
     c.in_ok-headers.ensures.joined ∙ ap (λ (ds : List Entry). entries (headers_of ds))
     (rw (c.as_str.ensures.value, c.deref-2.ensures) at c.in_ok-add_own.ensures.entries) in
-    let target_is = target_at es method target c.args.http11 facts kept joined c.len-2.result c.end_of-target.result
+    let target_is = target_at es method target c.args.protocol facts kept joined c.len-2.result c.end_of-target.result
     c.end_of-target.ensures
     (c.len-2.ensures ∙ sym (length_part t c.self.inside.target c.self.invariant.target))
     c.self.invariant.target.utf8 in
@@ -65,11 +65,11 @@ invariant_of-result c =
     let joined : kept ≡ entries (headers_of (es ++ own_entries method target facts.scheme)) =
     c.in_ok-headers.ensures.joined ∙ ap (λ (ds : List Entry). entries (headers_of ds))
     (rw (c.as_str.ensures.value, c.deref-2.ensures) at c.in_ok-add_own.ensures.entries) in
-    let method_is = method_at es method target c.args.http11 facts kept joined c.len.result c.end_of-method.result
+    let method_is = method_at es method target c.args.protocol facts kept joined c.len.result c.end_of-method.result
     c.end_of-method.ensures
     (c.len.ensures ∙ sym (length_part t c.self.inside.method c.self.invariant.method))
     c.self.invariant.method.utf8 in
-    let target_is = target_at es method target c.args.http11 facts kept joined c.len-2.result c.end_of-target.result
+    let target_is = target_at es method target c.args.protocol facts kept joined c.len-2.result c.end_of-target.result
     c.end_of-target.ensures
     (c.len-2.ensures ∙ sym (length_part t c.self.inside.target c.self.invariant.target))
     c.self.invariant.target.utf8 in
@@ -77,7 +77,7 @@ invariant_of-result c =
     let count : c.len-lines.result ≡ length es =
     items ∙ sym (length-map c.self.inside.fields.items (entry_in t)) in
     rw (c.url_path.ensures, c.query.ensures)
-    (made_kept es method target c.args.http11 facts kept joined c.len-lines.result count
+    (made_kept es method target c.args.protocol facts kept joined c.len-lines.result count
     c.end_of-method.result c.end_of-target.result method_is target_is c.text_of.result.now
     c.cut_target-cut.result c.text_of.ensures c.cut_target-cut.ensures
     c.in_ok-headers.ensures.texts (rw c.deref.ensures at c.facts_are_sound.ensures) (omega (arith, c)))
@@ -93,11 +93,11 @@ returns c =
     let joined : kept ≡ entries (headers_of (es ++ own_entries method target facts.scheme)) =
     c.in_ok-headers.ensures.joined ∙ ap (λ (ds : List Entry). entries (headers_of ds))
     (rw (c.as_str.ensures.value, c.deref-2.ensures) at c.in_ok-add_own.ensures.entries) in
-    let method_is = method_at es method target c.args.http11 facts kept joined c.len.result c.end_of-method.result
+    let method_is = method_at es method target c.args.protocol facts kept joined c.len.result c.end_of-method.result
     c.end_of-method.ensures
     (c.len.ensures ∙ sym (length_part t c.self.inside.method c.self.invariant.method))
     c.self.invariant.method.utf8 in
-    let target_is = target_at es method target c.args.http11 facts kept joined c.len-2.result c.end_of-target.result
+    let target_is = target_at es method target c.args.protocol facts kept joined c.len-2.result c.end_of-target.result
     c.end_of-target.ensures
     (c.len-2.ensures ∙ sym (length_part t c.self.inside.target c.self.invariant.target))
     c.self.invariant.target.utf8 in
@@ -105,5 +105,5 @@ returns c =
     let count : c.len-lines.result ≡ length es =
     items ∙ sym (length-map c.self.inside.fields.items (entry_in t)) in
     rw (← c.self.view_is)
-    (λ lines named. made es method target c.args.http11 facts kept joined c.len-lines.result count
+    (λ lines named. made es method target c.args.protocol facts kept joined c.len-lines.result count
     c.end_of-method.result c.end_of-target.result method_is target_is lines named)

@@ -1,15 +1,14 @@
-use Rattle.std.proofs.Common.{◌≡◌, drop, nat_lt, suc}
+use Rattle.std.proofs.Common.{◌≡◌, drop}
 use Rattle.cel_tree.specs.private.TreeViews.{tree_entries_view, trees_view}
-use Rattle.cel_types.specs.Typing.{locals_in_each, locals_in_entries}
+use Rattle.cel_check.specs.Places.{first_crowded_each, first_crowded_entry}
 use Rattle.cel_check.proofs.checker.locals.+locals.Given as goal
 
--- those that are left have few where all have
-abbrev pub invariant-each_has_few-loop-tree : goal.invariant-each_has_few-loop-tree
-invariant-each_has_few-loop-tree l =
-    nat_lt (locals_in_each (trees_view (drop l.tree-index l.trees))) (suc l.most)
-    ≡ nat_lt (locals_in_each (trees_view l.trees)) (suc l.most)
+-- the first of those that are left is the first of all
+abbrev pub invariant-crowded_in_each-loop-tree : goal.invariant-crowded_in_each-loop-tree
+invariant-crowded_in_each-loop-tree l =
+    first_crowded_each l.around (trees_view (drop l.tree-index l.trees)) ≡ first_crowded_each l.around (trees_view l.trees)
 
-abbrev pub invariant-entries_have_few-loop-entry : goal.invariant-entries_have_few-loop-entry
-invariant-entries_have_few-loop-entry l =
-    nat_lt (locals_in_entries (tree_entries_view (drop l.entry-index l.entries))) (suc l.most)
-    ≡ nat_lt (locals_in_entries (tree_entries_view l.entries)) (suc l.most)
+abbrev pub invariant-crowded_in_entries-loop-entry : goal.invariant-crowded_in_entries-loop-entry
+invariant-crowded_in_entries-loop-entry l =
+    first_crowded_entry l.around (tree_entries_view (drop l.entry-index l.entries))
+    ≡ first_crowded_entry l.around (tree_entries_view l.entries)

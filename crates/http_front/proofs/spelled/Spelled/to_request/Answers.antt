@@ -42,4 +42,4 @@ returns c =
     (conn_view c.args.conn.value)
     (rw (c.text_of.ensures, c.text_of-2.ensures) at c.in_ok-draft.ensures) c.in_ok-draft_lines.ensures
     c.in_ok-draft_lines-2.ensures made)
-    c.finish.ensures
+    (rw c.of_head.ensures at c.finish.ensures)

@@ -1,7 +1,7 @@
 -- Words spell the same beside pools that have grown, and one more is put behind them.
 use Rattle.std.proofs.Common.{◌<◌, ◌∷◌, [], length, length-append, rules, arith, ◌∙◌}
 use Rattle.machine_code.specs.Instructions.{instr_view}
-use Rattle.machine_code.specs.private.Beside.{parts}
+use Rattle.machine_code.specs.Pools.{parts}
 use Rattle.machine_code.proofs.Growing.{instrs_again, pushed}
 use Rattle.machine_code.proofs.code.Code.push.Goals as goal
 

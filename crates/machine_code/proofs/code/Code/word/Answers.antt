@@ -2,8 +2,8 @@
 use Rattle.std.proofs.Common.{◌<◌, length, ap, arith, refl}
 use Rattle.std.proofs.lemmas.List.{length-map}
 use Rattle.std.proofs.lemmas.Option.{slice_get-map, slice_get_read}
-use Rattle.machine_code.specs.private.Packing.{instr_at, spelled}
-use Rattle.machine_code.specs.private.Beside.{parts}
+use Rattle.machine_code.specs.Packing.{instr_at, spelled}
+use Rattle.machine_code.specs.Pools.{parts}
 use Rattle.machine_code.proofs.Growing.{instr_there, some_spelled}
 use Rattle.machine_code.proofs.code.Code.word.Goals as goal
 

@@ -4,9 +4,9 @@ use Rattle.std.specs.Prelude.{slice_get, option_map}
 use Rattle.std.proofs.lemmas.Option.{slice_get_read}
 use Rattle.cel_value.specs.declared.cel_type.KeyType.{KeyType}
 use Rattle.machine_code.specs.declared.instr.Instr.TheVariants as instrs
-use Rattle.machine_code.specs.private.Packing.{operation_table, key_table}
+use Rattle.machine_code.specs.Packing.{operation_table, key_table}
 use Rattle.machine_code.proofs.Growing.{map_within, and_of, test_made, loop_test_made, loop_next2_made}
-use Rattle.machine_code.specs.private.Beside.{parts}
+use Rattle.machine_code.specs.Pools.{parts}
 use Rattle.machine_code.proofs.pools.Pools.made.Goals as goal
 
 pub operation_of-requires : goal.operation_of-requires
