@@ -1,17 +1,41 @@
 -- What each call does to the law.
-use Rattle.std.proofs.Common.{◌≡◌, ◌≤◌, ◌<◌, ℕ, ◌+◌, Bool, false, if◌then◌else◌, List, [], ◌∷◌, ◌++◌, take, drop, sym, ap, ap₂, ◌∙◌, arith, append_assoc, append-nil}
-use Rattle.std.proofs.lemmas.Bool.{ne_eqb}
+use Rattle.std.proofs.Common.{◌≡◌, ◌≤◌, ◌<◌, ℕ, ◌+◌, Bool, false, refl, Option, None, List, [], ◌∷◌, ◌++◌, take, drop, sym, ap, ap₂, subst, ◌∙◌, arith, append_assoc, append-nil}
 use Rattle.std.proofs.lemmas.List.{take-append-drop}
-use Rattle.http2.specs.Frame.{IsFrame, kind_of, is_acknowledgement, data_of, flow_of, increment_of, window_after}
-use Rattle.http2.specs.Trail.{Step, got, put, preface, Line, Law, bytes_got, bytes_put, is_reply, AreQuiet}
+use Rattle.http2.specs.Frame.{IsFrame, kind_of, data_of, flow_of, increment_of, window_after}
+use Rattle.http2.specs.Trail.{Step, got, put, preface, settings_frame, window_frame, connected, Line, Law, bytes_got, bytes_put, offered, finished_after, pinged, ponged, Gives}
+
+-- the opening
+pub law_connected : (line : Line) → line.rest ≡ [] → line.data_in ≡ [] → line.out ≡ preface ++ settings_frame ++ window_frame
+    → line.window ≡ 65535 → line.stream ≡ 0 → line.connection ≡ 0 → line.used ≡ 0
+    → line.stream_credit ≡ 1048581 → line.connection_credit ≡ 1048581 → line.finished ≡ false → line.waits ≡ None
+    → Law connected [] [] [] [] line
+law_connected line rest data_in out window stream connection used first second finished waits = record {
+  frames = (record { whole = refl; small = omega arith }, (record { whole = refl; small = omega arith }, tt));
+  arrived = sym rest;
+  handed = sym data_in;
+  written = out;
+  said = refl;
+  granted = (λ some. absurd (omega (arith, some)), (λ some. absurd (omega (arith, some)), tt));
+  window_is = window;
+  stream_is = stream;
+  connection_is = connection;
+  used_is = used;
+  unended = (λ kind. refl, (λ kind. refl, tt));
+  finished_is = finished;
+  waits_is = waits;
+  stream_given = omega (arith, first);
+  connection_given = omega (arith, second);
+}
 
 -- a frame is looked at
 pub law_got : (trail : List Step) (came sent took gave : List ℕ) (old new : Line) (frame : List ℕ) → IsFrame frame
     → old.rest ≡ frame ++ new.rest → new.data_in ≡ old.data_in ++ data_of frame → new.out ≡ old.out
     → new.window ≡ window_after old.window frame → new.stream ≡ old.stream + increment_of 1 frame
     → new.connection ≡ old.connection + increment_of 0 frame → new.used ≡ old.used
+    → new.stream_credit + flow_of frame ≡ old.stream_credit → new.connection_credit + flow_of frame ≡ old.connection_credit
+    → new.finished ≡ old.finished → new.waits ≡ ponged old.waits frame
     → Law trail came sent took gave old → Law (got frame ∷ trail) came sent took gave new
-law_got trail came sent took gave old new frame is rest data_in out window stream connection used law = record {
+law_got trail came sent took gave old new frame is rest data_in out window stream connection used first second finished waits law = record {
   frames = (is, law.frames);
   arrived = law.arrived ∙ ap (λ (t : List ℕ). bytes_got trail ++ t) rest ∙ sym (append_assoc (bytes_got trail) frame new.rest);
   handed = ap (λ (t : List ℕ). t ++ data_of frame) law.handed ∙ append_assoc took old.data_in (data_of frame)
@@ -23,48 +47,65 @@ law_got trail came sent took gave old new frame is rest data_in out window strea
   stream_is = stream ∙ ap (λ (n : ℕ). n + increment_of 1 frame) law.stream_is;
   connection_is = connection ∙ ap (λ (n : ℕ). n + increment_of 0 frame) law.connection_is;
   used_is = used ∙ law.used_is;
+  unended = law.unended;
+  finished_is = finished ∙ law.finished_is;
+  waits_is = waits ∙ ap (λ (o : Option ℕ). ponged o frame) law.waits_is;
+  stream_given = omega (arith, law.stream_given, first);
+  connection_given = omega (arith, law.connection_given, second);
 }
 
--- a frame is written
-pub law_put : (trail : List Step) (came sent took gave : List ℕ) (old new : Line) (frame more : List ℕ) → IsFrame frame → data_of frame ≡ more
-    → (0 < flow_of frame → (old.used + flow_of frame ≤ old.window + old.stream) × (old.used + flow_of frame ≤ 65535 + old.connection))
-    → new.rest ≡ old.rest → new.data_in ≡ old.data_in → new.out ≡ old.out ++ frame
-    → new.window ≡ old.window → new.stream ≡ old.stream
-    → new.connection ≡ old.connection → new.used ≡ old.used + flow_of frame
+-- nothing is written, of no data
+pub law_same : (line : Line) → Gives [] [] line line
+law_same line = λ trail came sent took gave law.
+    subst (λ (g : List ℕ). Law trail came sent took g line) (sym (append-nil gave)) law
+
+-- a frame is written with this of the core's data
+pub record Puts (frame more : List ℕ) (old new : Line) : Type 0 where
+  pub is : IsFrame frame
+  pub brings : data_of frame ≡ more
+  pub within : 0 < flow_of frame
+      → (old.used + flow_of frame ≤ old.window + old.stream) × (old.used + flow_of frame ≤ 65535 + old.connection)
+  pub unended : kind_of frame ≡ 0 → old.finished ≡ false
+  pub same_window : (w : ℕ) → window_after w frame ≡ w
+  pub rest : new.rest ≡ old.rest
+  pub data_in : new.data_in ≡ old.data_in
+  pub out : new.out ≡ old.out ++ frame
+  pub window : new.window ≡ old.window
+  pub stream : new.stream ≡ old.stream
+  pub connection : new.connection ≡ old.connection
+  pub used : new.used ≡ old.used + flow_of frame
+  pub stream_credit : new.stream_credit ≡ old.stream_credit + increment_of 1 frame
+  pub connection_credit : new.connection_credit ≡ old.connection_credit + increment_of 0 frame
+  pub finished : new.finished ≡ finished_after old.finished frame
+  pub waits : new.waits ≡ pinged old.waits frame
+
+pub law_put : (trail : List Step) (came sent took gave : List ℕ) (old new : Line) (frame more : List ℕ) → Puts frame more old new
     → Law trail came sent took gave old → Law (put frame ∷ trail) came sent took (gave ++ more) new
-law_put trail came sent took gave old new frame more is brings within rest data_in out window stream connection used law = record {
-  frames = (is, law.frames);
-  arrived = law.arrived ∙ ap (λ (t : List ℕ). bytes_got trail ++ t) (sym rest);
-  handed = law.handed ∙ ap (λ (t : List ℕ). took ++ t) (sym data_in);
-  written = ap (λ (t : List ℕ). sent ++ t) out ∙ sym (append_assoc sent old.out frame)
+law_put trail came sent took gave old new frame more puts law = record {
+  frames = (puts.is, law.frames);
+  arrived = law.arrived ∙ ap (λ (t : List ℕ). bytes_got trail ++ t) (sym puts.rest);
+  handed = law.handed ∙ ap (λ (t : List ℕ). took ++ t) (sym puts.data_in);
+  written = ap (λ (t : List ℕ). sent ++ t) puts.out ∙ sym (append_assoc sent old.out frame)
       ∙ ap (λ (t : List ℕ). t ++ frame) law.written ∙ append_assoc preface (bytes_put trail) frame;
-  said = ap₂ (λ (a b : List ℕ). a ++ b) law.said brings;
-  granted = (λ some. rw (← law.used_is, ← law.window_is, ← law.stream_is, ← law.connection_is) (within some), law.granted);
-  window_is = window ∙ law.window_is;
-  stream_is = stream ∙ law.stream_is;
-  connection_is = connection ∙ law.connection_is;
-  used_is = used ∙ ap (λ (n : ℕ). n + flow_of frame) law.used_is;
+  said = ap₂ (λ (a b : List ℕ). a ++ b) law.said puts.brings;
+  granted = (λ some. rw (← law.used_is, ← law.window_is, ← law.stream_is, ← law.connection_is) (puts.within some), law.granted);
+  window_is = puts.window ∙ law.window_is;
+  stream_is = puts.stream ∙ law.stream_is;
+  connection_is = puts.connection ∙ law.connection_is;
+  used_is = puts.used ∙ ap (λ (n : ℕ). n + flow_of frame) law.used_is;
+  unended = (λ kind. sym law.finished_is ∙ puts.unended kind, law.unended);
+  finished_is = puts.finished ∙ ap (λ (b : Bool). finished_after b frame) law.finished_is;
+  waits_is = puts.waits ∙ ap (λ (o : Option ℕ). pinged o frame) law.waits_is;
+  stream_given = omega (arith, law.stream_given, puts.stream_credit, puts.same_window (offered trail));
+  connection_given = omega (arith, law.connection_given, puts.connection_credit);
 }
 
--- a frame without data is written
-pub law_control : (trail : List Step) (came sent took gave : List ℕ) (old new : Line) (frame : List ℕ) → IsFrame frame → data_of frame ≡ [] → flow_of frame ≡ 0
-    → new.rest ≡ old.rest → new.data_in ≡ old.data_in → new.out ≡ old.out ++ frame
-    → new.window ≡ old.window → new.stream ≡ old.stream
-    → new.connection ≡ old.connection → new.used ≡ old.used
+-- a frame is written without data
+pub law_silent : (trail : List Step) (came sent took gave : List ℕ) (old new : Line) (frame : List ℕ) → Puts frame [] old new
     → Law trail came sent took gave old → Law (put frame ∷ trail) came sent took gave new
-law_control trail came sent took gave old new frame is brings flow rest data_in out window stream connection used law = record {
-  frames = (is, law.frames);
-  arrived = law.arrived ∙ ap (λ (t : List ℕ). bytes_got trail ++ t) (sym rest);
-  handed = law.handed ∙ ap (λ (t : List ℕ). took ++ t) (sym data_in);
-  written = ap (λ (t : List ℕ). sent ++ t) out ∙ sym (append_assoc sent old.out frame)
-      ∙ ap (λ (t : List ℕ). t ++ frame) law.written ∙ append_assoc preface (bytes_put trail) frame;
-  said = ap₂ (λ (a b : List ℕ). a ++ b) law.said brings ∙ append-nil gave;
-  granted = (λ some. absurd (omega (arith, some, flow)), law.granted);
-  window_is = window ∙ law.window_is;
-  stream_is = stream ∙ law.stream_is;
-  connection_is = connection ∙ law.connection_is;
-  used_is = used ∙ law.used_is ∙ omega (arith, flow);
-}
+law_silent trail came sent took gave old new frame puts law =
+    subst (λ (g : List ℕ). Law (put frame ∷ trail) came sent took g new) (append-nil gave)
+    (law_put trail came sent took gave old new frame [] puts law)
 
 -- the first bytes that wait are sent
 pub law_sent : (trail : List Step) (came sent took gave : List ℕ) (old new : Line) (count : ℕ) → new ≡ record old { out = drop count old.out }
@@ -81,16 +122,9 @@ law_sent trail came sent took gave old new count is law = rw is (record {
   stream_is = law.stream_is;
   connection_is = law.connection_is;
   used_is = law.used_is;
+  unended = law.unended;
+  finished_is = law.finished_is;
+  waits_is = law.waits_is;
+  stream_given = law.stream_given;
+  connection_given = law.connection_given;
 })
-
--- a frame of another type acknowledges nothing
-pub other_reply : (frame : List ℕ) (kind : ℕ) → kind_of frame ≡ kind → (kind ≡ 4 → ⊥) → (kind ≡ 6 → ⊥) → is_reply frame ≡ false
-other_reply frame kind is four six =
-    ap₂ (λ (a b : Bool). if a then is_acknowledgement frame else if b then is_acknowledgement frame else false)
-    (ne_eqb (kind_of frame) 4 (λ k. four (sym is ∙ k))) (ne_eqb (kind_of frame) 6 (λ k. six (sym is ∙ k)))
-
--- quiet steps, one after the other
-pub quiet_append : (xs ys : List Step) → AreQuiet xs → AreQuiet ys → AreQuiet (xs ++ ys)
-quiet_append [] ys x y = y
-quiet_append (got frame ∷ xs) ys x y = absurd x
-quiet_append (put frame ∷ xs) ys (is, x) y = (is, quiet_append xs ys x y)

@@ -1,4 +1,5 @@
 mod Keeping
 mod Frames
+mod Putting
 mod Cutting
 mod Calls

@@ -1,10 +1,10 @@
 -- A client's call after the frames of a trail: what they said, what they were answered, and why it is over.
-use Rattle.std.specs.Prelude.{◌≡◌, ◌≤◌, ◌<◌, ◌^◌, ℕ, ◌+◌, ◌-◌, ◌==◌, Bool, true, false, not, Option, Some, None, List, [], ◌∷◌, ◌++◌, if◌then◌else◌}
-use Rattle.http2.specs.Frame.{IsFrame, IsTooLarge, kind_of, flags_of, stream_of, payload_of, flow_of, increment_of, window_after, is_acknowledgement}
-use Rattle.http2.specs.Trail.{Step, got, put, is_reply, Unread}
-use Rattle.http2.specs.Control.{ControlValue, first_control, Next, goes_on, is_over, is_settings, After}
+use Rattle.std.specs.Prelude.{◌≡◌, ◌≤◌, ◌<◌, ◌^◌, ℕ, ◌+◌, ◌-◌, true, Option, Some, None, List, [], ◌∷◌, ◌++◌, if◌then◌else◌}
+use Rattle.http2.specs.Frame.{IsFrame, IsTooLarge, payload_of, is_ping, Parts, parts_of, flow_of, increment_of, window_after}
+use Rattle.http2.specs.Trail.{Step, got, put, is_reply, Begins, Unread}
+use Rattle.http2.specs.Control.{ControlValue, first_control, Next, goes_on, is_over, Left, left_by, is_settings, After}
 use Rattle.http2.specs.declared.end.End.{End}
-use Rattle.http2.specs.declared.end.End.TheVariants.{Broken}
+use Rattle.http2.specs.declared.end.End.TheVariants.{Broken, Cancelled}
 use Rattle.http2.specs.declared.fault.Code.{Code}
 use Rattle.http2.specs.declared.fault.Fault.{Fault}
 use Rattle.http2.specs.declared.fault.Fault.TheVariants.{Memory, Connection}
@@ -14,21 +14,6 @@ abbrev pub Follows : List Step → Next → Type 0
 Follows [] next = next ≡ goes_on first_control
 Follows (got frame ∷ trail) next = (c : ControlValue) × Follows trail (goes_on c) × After c frame next
 Follows (put frame ∷ trail) next = Follows trail next
-
--- a frame by its parts
-pub record Parts : Type 0 where
-  pub kind : ℕ
-  pub flags : ℕ
-  pub stream : ℕ
-  pub payload : List ℕ
-
--- the parts of a frame (RFC 9113, 4.1)
-abbrev pub parts_of : List ℕ → Parts
-parts_of frame = record { kind = kind_of frame; flags = flags_of frame; stream = stream_of frame; payload = payload_of frame }
-
--- a ping that is no acknowledgement
-abbrev pub is_ping : List ℕ → Bool
-is_ping frame = if kind_of frame == 6 then not (is_acknowledgement frame) else false
 
 -- settings are acknowledged, and a ping is with its payload (RFC 9113, 6.5.3 and 6.7)
 abbrev pub replies_to : List ℕ → List Parts
@@ -71,14 +56,18 @@ pub data StopsAt (u : Unread) (f : Fault) : Type 0 where
   beyond : (frame rest : List ℕ) → u.rest ≡ frame ++ rest → IsFrame frame → IsBeyond u frame
       → f ≡ Connection Code.FlowControl → StopsAt u f
 
--- why a call is over: the frames that came say so, or what is unread cannot be read on, or memory ran out
-pub data Ends (trail : List Step) (u : Unread) (e : End) : Type 0 where
-  by_frame : Follows trail (is_over e) → Ends trail u e
-  by_fault : (c : ControlValue) → Follows trail (goes_on c) → (f : Fault) → e ≡ Broken f → StopsAt u f → Ends trail u e
-  by_memory : e ≡ Broken Memory → Ends trail u e
+-- why a call is over, and what stays of it: the frames that came say so, or what is unread cannot be read on, or the client
+-- gave it up, or memory ran out
+pub data Ends (trail : List Step) (u : Unread) (e : End) (left : Left) : Type 0 where
+  by_frame : Follows trail (is_over e left) → Ends trail u e left
+  by_fault : (c : ControlValue) → Follows trail (goes_on c) → left ≡ left_by c → (f : Fault) → e ≡ Broken f
+      → StopsAt u f → Ends trail u e left
+  by_client : (c : ControlValue) → Follows trail (goes_on c) → left ≡ left_by c → e ≡ Cancelled → Ends trail u e left
+  by_memory : e ≡ Broken Memory → Ends trail u e left
 
 -- how a call is after the frames of a trail
-pub record IsAfter (trail : List Step) (control : ControlValue) (end : Option End) (u : Unread) : Type 0 where
+pub record IsAfter (first : List ℕ) (trail : List Step) (control : ControlValue) (end : Option End) (u : Unread) : Type 0 where
+  pub begins : Begins first trail
   pub going : end ≡ None → Follows trail (goes_on control)
   pub answered : end ≡ None → replied trail ≡ owed trail
-  pub over : (e : End) → end ≡ Some e → Ends trail u e
+  pub over : (e : End) → end ≡ Some e → Ends trail u e (left_by control)

@@ -1,6 +1,6 @@
 -- What is wrong with a frame of a client's peer by itself (RFC 9113, 6.1 to 6.10): the first fault, with its code.
-use Rattle.std.specs.Prelude.{ℕ, ◌+◌, ◌*◌, ◌/◌, ◌%◌, ◌==◌, nat_lt, Bool, not, Option, Some, None, Result, Ok, Err, List, [], ◌∷◌, length, if◌then◌else◌}
-use Rattle.http2.specs.Frame.{word_at, kind_of, flags_of, stream_of, payload_of, unpadded}
+use Rattle.std.specs.Prelude.{ℕ, ◌+◌, ◌*◌, ◌-◌, ◌/◌, ◌%◌, ◌==◌, nat_lt, Bool, not, Option, Some, None, Result, Ok, Err, List, [], ◌∷◌, length, if◌then◌else◌}
+use Rattle.http2.specs.Frame.{byte, word_at, kind_of, flags_of, stream_of, payload_of}
 use Rattle.http2.specs.declared.fault.Code.{Code}
 use Rattle.http2.specs.declared.fault.Fault.{Fault}
 use Rattle.http2.specs.declared.fault.Fault.TheVariants.{Connection, Stream}
@@ -31,27 +31,29 @@ wrong_padded (pad ∷ bytes) = if nat_lt (length bytes) pad then protocol else N
 abbrev pub wrong_padding : ℕ → List ℕ → Option Fault
 wrong_padding flags payload = if has_flag 8 flags then wrong_padded payload else None
 
--- the payload without padding
-abbrev pub stripped : ℕ → List ℕ → List ℕ
-stripped flags payload = if has_flag 8 flags then unpadded payload else payload
-
 -- DATA: on a stream, with right padding (6.1)
 abbrev pub wrong_data : ℕ → Bool → List ℕ → Option Fault
 wrong_data flags on_stream payload = if on_stream then wrong_padding flags payload else protocol
-
--- 6.2: with the flag PRIORITY five bytes stand before the block
-abbrev pub wrong_block : ℕ → List ℕ → Option Fault
-wrong_block flags block = if has_flag 32 flags then (if nat_lt (length block) 5 then frame_size else None) else None
 
 -- the first fault of two
 abbrev pub or_else : Option Fault → Option Fault → Option Fault
 or_else (Some e) next = Some e
 or_else None next = next
 
--- HEADERS: on a stream, with right padding, and whole (6.2)
+-- what a HEADERS frame has before its block: the length of its padding, and a priority of five bytes (6.2)
+abbrev pub before_block : ℕ → ℕ
+before_block flags = (if has_flag 8 flags then 1 else 0) + (if has_flag 32 flags then 5 else 0)
+
+-- how many bytes of padding it says that it has
+abbrev pub padding_in : ℕ → List ℕ → ℕ
+padding_in flags payload = if has_flag 8 flags then byte payload 0 else 0
+
+-- HEADERS: on a stream; what stands before the block is there, and padding reaches back to the block at most (6.2)
 abbrev pub wrong_headers : ℕ → Bool → List ℕ → Option Fault
 wrong_headers flags on_stream payload =
-    if on_stream then or_else (wrong_padding flags payload) (wrong_block flags (stripped flags payload)) else protocol
+    if not on_stream then protocol
+    else if nat_lt (length payload) (before_block flags) then frame_size
+    else if nat_lt (length payload - before_block flags) (padding_in flags payload) then protocol else None
 
 -- PRIORITY: on a stream, of 5 bytes; of another size it ends the stream (6.3)
 abbrev pub wrong_priority : Bool → List ℕ → Option Fault

@@ -1,6 +1,6 @@
 -- Frames (RFC 9113, 4.1 and 6), as the bytes that they are.
 use Rattle.std.specs.List.{AllByRecursion}
-use Rattle.std.specs.Prelude.{◌≡◌, ◌⊎◌, ◌≤◌, ◌<◌, ℕ, ◌+◌, ◌*◌, ◌-◌, ◌/◌, ◌%◌, ◌==◌, Bool, List, [], ◌∷◌, ◌++◌, length, take, drop, get_or, if◌then◌else◌}
+use Rattle.std.specs.Prelude.{◌≡◌, ◌⊎◌, ◌≤◌, ◌<◌, ℕ, ◌+◌, ◌*◌, ◌-◌, ◌/◌, ◌%◌, ◌==◌, Bool, false, not, List, [], ◌∷◌, ◌++◌, length, take, drop, get_or, if◌then◌else◌}
 
 -- the byte at a place, and 0 behind the end
 abbrev pub byte : List ℕ → ℕ → ℕ
@@ -108,9 +108,40 @@ window_in window (a ∷ b ∷ c ∷ []) = window
 window_in window (a ∷ b ∷ c ∷ d ∷ []) = window
 window_in window (a ∷ b ∷ c ∷ d ∷ e ∷ []) = window
 
+-- that size after a frame of a type with a payload: those of settings count
+abbrev pub window_by : ℕ → List ℕ → ℕ → ℕ
+window_by kind bytes window = if kind == 4 then window_in window bytes else window
+
 -- that size after a frame
 abbrev pub window_after : ℕ → List ℕ → ℕ
-window_after window frame = if kind_of frame == 4 then window_in window (payload_of frame) else window
+window_after window frame = window_by (kind_of frame) (payload_of frame) window
+
+-- a ping that is no acknowledgement, by its type and flags
+abbrev pub is_ping_by : ℕ → ℕ → Bool
+is_ping_by kind flags = if kind == 6 then not ((flags % 2) == 1) else false
+
+-- a frame that is one
+abbrev pub is_ping : List ℕ → Bool
+is_ping frame = is_ping_by (kind_of frame) (flags_of frame)
+
+-- a ping that is one
+abbrev pub is_pong : List ℕ → Bool
+is_pong frame = if kind_of frame == 6 then is_acknowledgement frame else false
+
+-- the eight bytes of a ping, as a number
+abbrev pub mark_of : List ℕ → ℕ
+mark_of frame = word_at (payload_of frame) 0 * 4294967296 + word_at (payload_of frame) 4
+
+-- a frame by its parts
+pub record Parts : Type 0 where
+  pub kind : ℕ
+  pub flags : ℕ
+  pub stream : ℕ
+  pub payload : List ℕ
+
+-- the parts of a frame (RFC 9113, 4.1)
+abbrev pub parts_of : List ℕ → Parts
+parts_of frame = record { kind = kind_of frame; flags = flags_of frame; stream = stream_of frame; payload = payload_of frame }
 
 -- the bytes of frames, in order
 abbrev pub joined : List (List ℕ) → List ℕ

@@ -2,7 +2,9 @@ pub mod Frame
 pub mod Trail
 pub mod Lines
 pub mod Faults
+pub mod Fields
 pub mod Answer
+pub mod Message
 pub mod Control
 pub mod Controls
 pub mod Call

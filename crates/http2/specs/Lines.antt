@@ -12,6 +12,10 @@ line p = record {
   stream = p.stream;
   connection = p.connection;
   used = p.used;
+  stream_credit = p.credit;
+  connection_credit = p.credit;
+  finished = p.finished;
+  waits = p.waits;
 }
 
 -- what of it is unread, and the windows

@@ -1,9 +1,10 @@
 //! What a frame says to flow control, and what data it brings.
 
 ghost use Rattle.std.specs.Prelude.{◌≡◌, ◌≤◌, ◌<◌, ◌+◌, ◌^◌, length, drop, IfSome, IfNone};
-ghost use Rattle.http2.specs.Frame.{data_of, flow_of, increment_of, window_in, window_first, window_after};
+ghost use Rattle.http2.specs.Frame.{data_of, flow_of, increment_of, window_in, window_first, window_after, is_pong, mark_of};
+ghost use Rattle.http2.specs.Trail.{ponged};
 
-use crate::frame::{DATA, Frame, SETTINGS, UPDATE, word};
+use crate::frame::{DATA, Frame, PING, SETTINGS, UPDATE, word};
 
 /// How many bytes of the frame count.
 pub(crate) fn flow(frame: &Frame) -> usize
@@ -90,4 +91,25 @@ pub(crate) fn after(window: u32, frame: &Frame) -> u32
         return after_settings(window, frame.payload());
     }
     window
+}
+
+/// The eight bytes of a ping, as a number.
+fn mark(frame: &Frame) -> u64
+    ensures { result ≡ mark_of frame.now.bytes.items }
+{
+    let payload = frame.payload();
+    (word(payload, 0) as u64) * 4_294_967_296 + word(payload, 4) as u64
+}
+
+/// The mark of the ping that waits, behind a frame that came.
+pub(crate) fn ponged(waits: Option<u64>, frame: &Frame) -> Option<u64>
+    ensures { result ≡ ponged waits frame.now.bytes.items }
+{
+    if frame.kind() != PING || !frame.is_acknowledgement() {
+        return waits;
+    }
+    if waits? == mark(frame) {
+        return None;
+    }
+    waits
 }

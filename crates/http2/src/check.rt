@@ -1,11 +1,11 @@
 //! What is wrong with a frame by itself (RFC 9113, 6).
 
 ghost use Rattle.std.specs.Prelude.{◌≡◌, ◌≤◌, ◌<◌, ◌+◌, length, IfOk, IfErr};
-ghost use Rattle.http2.specs.Faults.{has_flag, error_of, stripped, wrong_padding, wrong_data, wrong_headers, wrong_priority, wrong_reset, wrong_settings, wrong_entries, wrong_setting, wrong_ping, wrong_goaway, wrong_update, wrong_continuation, fault_of};
+ghost use Rattle.http2.specs.Faults.{has_flag, error_of, wrong_padding, wrong_data, before_block, padding_in, wrong_headers, wrong_priority, wrong_reset, wrong_settings, wrong_entries, wrong_setting, wrong_ping, wrong_goaway, wrong_update, wrong_continuation, fault_of};
 
 use crate::accounts::behind;
 use crate::fault::{Code, Fault};
-use crate::frame::{Frame, word};
+use crate::frame::{Frame, byte, word};
 
 /// Whether a flag is set.
 fn has(flags: u8, mask: u8) -> bool
@@ -43,22 +43,20 @@ pub(crate) fn check(frame: &Frame) -> Result<(), Fault>
     }
 }
 
-/// The bytes without their padding.
-fn unpadded(flags: u8, payload: &[u8]) -> Result<&[u8], Fault>
-    ensures wrong { error_of result ≡ wrong_padding flags payload.now }
-    ensures found { IfOk result (λ bytes. bytes.now ≡ stripped flags payload.now) }
+/// Refuses padding that is longer than what is left.
+fn check_padding(flags: u8, payload: &[u8]) -> Result<(), Fault>
+    ensures { error_of result ≡ wrong_padding flags payload.now }
 {
     if !has(flags, 8) {
-        return Ok(payload);
+        return Ok(());
     }
     let Some((pad, bytes)) = payload.split_first() else {
         return Err(wrong(Code::FrameSize));
     };
-    let pad = *pad as usize;
-    if pad > bytes.len() {
+    if *pad as usize > bytes.len() {
         return Err(wrong(Code::Protocol));
     }
-    Ok(&bytes[..bytes.len() - pad])
+    Ok(())
 }
 
 fn check_data(flags: u8, on_stream: bool, payload: &[u8]) -> Result<(), Fault>
@@ -67,8 +65,27 @@ fn check_data(flags: u8, on_stream: bool, payload: &[u8]) -> Result<(), Fault>
     if !on_stream {
         return Err(wrong(Code::Protocol));
     }
-    let _data = unpadded(flags, payload)?;
-    Ok(())
+    check_padding(flags, payload)
+}
+
+/// How many bytes stand before the block of HEADERS: the length of padding, and a priority.
+fn before_block(flags: u8) -> usize
+    ensures value { result ≡ before_block flags }
+    ensures few { result ≤ 6 }
+{
+    let padded = if has(flags, 8) { 1 } else { 0 };
+    let first = if has(flags, 32) { 5 } else { 0 };
+    padded + first
+}
+
+/// How many bytes of padding HEADERS say that they have.
+fn padding_in(flags: u8, payload: &[u8]) -> usize
+    ensures { result ≡ padding_in flags payload.now }
+{
+    if has(flags, 8) {
+        return byte(payload, 0) as usize;
+    }
+    0
 }
 
 fn check_headers(flags: u8, on_stream: bool, payload: &[u8]) -> Result<(), Fault>
@@ -77,9 +94,12 @@ fn check_headers(flags: u8, on_stream: bool, payload: &[u8]) -> Result<(), Fault
     if !on_stream {
         return Err(wrong(Code::Protocol));
     }
-    let block = unpadded(flags, payload)?;
-    if has(flags, 32) && block.len() < 5 {
+    let before = before_block(flags);
+    if payload.len() < before {
         return Err(wrong(Code::FrameSize));
+    }
+    if payload.len() - before < padding_in(flags, payload) {
+        return Err(wrong(Code::Protocol));
     }
     Ok(())
 }

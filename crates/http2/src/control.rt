@@ -2,17 +2,24 @@
 
 ghost use Rattle.std.specs.Prelude.{◌≡◌};
 
-use crate::answer::{is_grpc, number_of};
+use crate::accounts::data;
+use crate::answer::{
+    is_grpc, is_interim, is_whole, length_of, number_of, refusal_in, status_of, without,
+};
 use crate::check::check;
-use crate::end::{End, broken, went_away};
-use crate::fault::{Code, Fault};
-use crate::frame::{CONTINUATION, DATA, Frame, GOAWAY, HEADERS, PRIORITY, RESET, SETTINGS, word};
+use crate::end::{End, broken, failed, went_away};
+use crate::fault::Code;
+use crate::fields::{are_of_answer, are_plain};
+use crate::frame::{
+    CONTINUATION, DATA, Frame, GOAWAY, HEAD, HEADERS, PRIORITY, RESET, SETTINGS, word,
+};
+use crate::message::Message;
 use hpack::{Decoder, Field, HpackError};
 use std::alloc::{AllocError, Global};
 use std::mem::replace;
 
-/// The most octets of a header block.
-const MOST_BLOCK: usize = 32_768;
+/// The most that a header block weighs: its octets, and nine more for each part behind the first.
+const MOST_WEIGHT: usize = 32_768;
 
 /// The most octets of the fields of a header block, with 32 more for each (RFC 9113, 6.5.2).
 const MOST_FIELDS: u32 = 16_384;
@@ -35,10 +42,15 @@ pub enum Stage {
 #[derive(Debug, Drop)]
 pub(crate) struct Control {
     stage: Stage,
-    // the header block that is not whole: whether the stream ends behind it, and its octets
+    // the header block that is not whole: whether the stream ends behind it, its octets, and its weight
     unfinished: Option<bool>,
     block: Vec<u8>,
+    weight: usize,
     decoder: Decoder,
+    // what is still to come of the content, if that was told
+    left: Option<u64>,
+    // what grpc-message told
+    told: Message,
     ghost table: { decoder.most ≡ 4096 },
     ghost fields: { decoder.limit ≡ 16384 },
 }
@@ -49,8 +61,9 @@ impl Control {
     ghost use Rattle.hpack.specs.Field.{lines_of, line_of};
     ghost use Rattle.hpack.specs.Table.{Table};
     ghost use Rattle.http2.specs.Frame.{payload_of, ends_stream, ends_block};
-    ghost use Rattle.http2.specs.Controls.{control_view, with_part};
-    ghost use Rattle.http2.specs.Control.{first_control, is_answered, next_of, settled, is_misplaced, content_came, fields_came, Gathers, Says, After};
+    ghost use Rattle.http2.specs.Controls.{control_view};
+    ghost use Rattle.http2.specs.Answer.{length_from};
+    ghost use Rattle.http2.specs.Control.{first_control, is_answered, next_of, settled, with_part, is_misplaced, content_came, status_came, answer_came, answer_began, fields_came, Gathers, Says, After};
 
     /// Before the first frame.
     pub(crate) fn new(alloc: Global) -> Control
@@ -61,7 +74,10 @@ impl Control {
             stage: Stage::Opened,
             unfinished: None,
             block: Vec::new(alloc),
+            weight: 0,
             decoder: Decoder::new(alloc, TABLE, MOST_FIELDS),
+            left: None,
+            told: Message::new(alloc),
         }
     }
 
@@ -70,6 +86,20 @@ impl Control {
         ensures { result ≡ is_answered (control_view self.now).stage }
     {
         self.stage == Stage::Answered
+    }
+
+    /// What is kept of the message.
+    pub(crate) fn message(&self) -> &[u8]
+        ensures { result.now ≡ (control_view self.now).told.text }
+    {
+        self.told.text.as_slice()
+    }
+
+    /// How many octets of it were cut.
+    pub(crate) fn message_cut(&self) -> usize
+        ensures { result ≡ (control_view self.now).told.cut }
+    {
+        self.told.cut
     }
 
     /// Takes the next frame, and returns why the call is over, if it is.
@@ -122,30 +152,39 @@ impl Control {
         ensures alive { result ≡ Ok None → self.new.decoder.alive ≡ true }
     {
         match frame.kind() {
-            DATA => Ok(self.content_came(frame.ends_stream())),
+            DATA => Ok(self.content_came(data(frame).len(), frame.ends_stream())),
             HEADERS => {
                 self.unfinished = Some(frame.ends_stream());
                 self.block.clear();
-                self.gather(alloc, frame.fragment(), frame.ends_block())
+                self.weight = 0;
+                self.gather(alloc, 0, frame.fragment(), frame.ends_block())
             }
-            CONTINUATION => self.gather(alloc, frame.payload(), frame.ends_block()),
+            CONTINUATION => self.gather(alloc, HEAD, frame.payload(), frame.ends_block()),
             RESET => Ok(Some(End::Reset(word(frame.payload(), 0)))),
             GOAWAY => Ok(went_away(frame.payload())),
             _ => Ok(None),
         }
     }
 
-    /// A part of a header block came.
-    fn gather(&mut self, alloc: Global, part: &[u8], whole: bool) -> Result<Option<End>, AllocError>
-        requires { self.old.decoder.alive ≡ true }
-        ensures gathers { IfOk result (λ over. Gathers (with_part (control_view self.old) part.now) whole
+    /// A part of a header block came, which weighs so much more than its octets.
+    fn gather(
+        &mut self,
+        alloc: Global,
+        head: usize,
+        part: &[u8],
+        whole: bool,
+    ) -> Result<Option<End>, AllocError>
+        requires alive { self.old.decoder.alive ≡ true }
+        ensures gathers { IfOk result (λ over. Gathers (with_part (control_view self.old) head part.now) whole
             (next_of over (control_view self.new))) }
         ensures alive { result ≡ Ok None → self.new.decoder.alive ≡ true }
     {
-        if self.block.len().saturating_add(part.len()) > MOST_BLOCK {
+        let weight = self.weight.saturating_add(head).saturating_add(part.len());
+        if weight > MOST_WEIGHT {
             return Ok(Some(broken(Code::EnhanceYourCalm)));
         }
         self.block.extend_from_slice(part)?;
+        self.weight = weight;
         if !whole {
             return Ok(None);
         }
@@ -155,7 +194,7 @@ impl Control {
     /// The header block is whole.
     fn read_block(&mut self, alloc: Global) -> Result<Option<End>, AllocError>
         requires alive { self.old.decoder.alive ≡ true }
-        requires short { length self.old.block.items ≤ 32768 }
+        requires light { self.old.weight ≤ 32768 }
         ensures gathers { IfOk result (λ over. Gathers (control_view self.old) true
             (next_of over (control_view self.new))) }
         ensures alive { result ≡ Ok None → self.new.decoder.alive ≡ true }
@@ -164,61 +203,117 @@ impl Control {
         self.unfinished = None;
         let block = replace(&mut self.block, Vec::new(alloc));
         match self.decoder.decode(alloc, &block) {
-            Ok(Some(fields)) => Ok(self.fields_came(&fields, last)),
-            Ok(None) => Ok(Some(End::Broken(Fault::Stream(Code::EnhanceYourCalm)))),
+            Ok(Some(fields)) => self.fields_came(alloc, &fields, last),
+            Ok(None) => Ok(Some(failed(Code::EnhanceYourCalm))),
             Err(HpackError::Compression(_)) => Ok(Some(broken(Code::Compression))),
             Err(_) => Err(AllocError),
         }
     }
 
     /// The fields of a header block came.
-    fn fields_came(&mut self, fields: &[Field], last: bool) -> Option<End>
-        ensures next { next_of result (control_view self.new)
-            ≡ fields_came (control_view self.old) last (Some (map line_of fields.now)) }
+    fn fields_came(
+        &mut self,
+        alloc: Global,
+        fields: &[Field],
+        last: bool,
+    ) -> Result<Option<End>, AllocError>
+        ensures next { IfOk result (λ over. next_of over (control_view self.new)
+            ≡ fields_came (control_view self.old) last (Some (map line_of fields.now))) }
         ensures decoder { self.new.decoder ≡ self.old.decoder }
     {
         if !self.is_answered() {
-            return self.answer_came(fields, last);
+            return self.answer_came(alloc, fields, last);
         }
-        if !last {
-            return Some(End::Broken(Fault::Stream(Code::Protocol)));
+        if !last || !are_plain(fields) {
+            return Ok(Some(failed(Code::Protocol)));
         }
-        Some(End::Status(number_of(fields, b"grpc-status".as_slice())))
+        self.status_came(alloc, fields)
     }
 
-    /// Fields came before the answer's.
-    fn answer_came(&mut self, fields: &[Field], last: bool) -> Option<End>
-        requires { is_answered (control_view self.old).stage ≡ false }
-        ensures next { next_of result (control_view self.new)
-            ≡ fields_came (control_view self.old) last (Some (map line_of fields.now)) }
+    /// Fields came that end the call by its status.
+    fn status_came(&mut self, alloc: Global, fields: &[Field]) -> Result<Option<End>, AllocError>
+        ensures next { IfOk result (λ over. next_of over (control_view self.new)
+            ≡ status_came (control_view self.old) (map line_of fields.now)) }
         ensures decoder { self.new.decoder ≡ self.old.decoder }
     {
-        let Some(status) = number_of(fields, b":status".as_slice()) else {
-            return Some(End::Broken(Fault::Stream(Code::Protocol)));
-        };
-        if !last && status >= 100 && status < 200 {
-            return None;
+        if !is_whole(self.left) {
+            return Ok(Some(failed(Code::Protocol)));
         }
-        if status != 200 || !is_grpc(fields) {
-            return Some(End::Refused);
-        }
-        if last {
-            return Some(End::Status(number_of(fields, b"grpc-status".as_slice())));
-        }
-        self.stage = Stage::Answered;
-        None
+        self.told = Message::of(alloc, fields)?;
+        Ok(Some(End::Status(number_of(fields, b"grpc-status".as_slice()))))
     }
 
-    /// Data came.
-    fn content_came(&self, last: bool) -> Option<End>
-        ensures { next_of result (control_view self.now) ≡ content_came (control_view self.now) last }
+    /// Fields came before the answer's data.
+    fn answer_came(
+        &mut self,
+        alloc: Global,
+        fields: &[Field],
+        last: bool,
+    ) -> Result<Option<End>, AllocError>
+        ensures next { IfOk result (λ over. next_of over (control_view self.new)
+            ≡ answer_came (control_view self.old) last (map line_of fields.now)) }
+        ensures decoder { self.new.decoder ≡ self.old.decoder }
+    {
+        if !are_of_answer(fields) {
+            return Ok(Some(failed(Code::Protocol)));
+        }
+        let Some(status) = status_of(fields) else {
+            return Ok(Some(failed(Code::Protocol)));
+        };
+        if is_interim(status) {
+            return Ok(if last {
+                Some(failed(Code::Protocol))
+            } else {
+                None
+            });
+        }
+        if status != 200 || !is_grpc(fields) {
+            self.told = Message::of(alloc, fields)?;
+            return Ok(Some(End::Refused(status, refusal_in(status, fields))));
+        }
+        self.answer_began(alloc, fields, last)
+    }
+
+    /// The answer begins with these fields.
+    fn answer_began(
+        &mut self,
+        alloc: Global,
+        fields: &[Field],
+        last: bool,
+    ) -> Result<Option<End>, AllocError>
+        ensures next { IfOk result (λ over. next_of over (control_view self.new)
+            ≡ answer_began (control_view self.old) last (map line_of fields.now) (length_from None (map line_of fields.now))) }
+        ensures decoder { self.new.decoder ≡ self.old.decoder }
+    {
+        let Some(left) = length_of(fields) else {
+            return Ok(Some(failed(Code::Protocol)));
+        };
+        self.left = left;
+        if last {
+            return self.status_came(alloc, fields);
+        }
+        self.stage = Stage::Answered;
+        Ok(None)
+    }
+
+    /// Data came, so many octets.
+    fn content_came(&mut self, count: usize, last: bool) -> Option<End>
+        ensures next { next_of result (control_view self.new) ≡ content_came (control_view self.old) last count }
+        ensures decoder { self.new.decoder ≡ self.old.decoder }
     {
         if self.stage != Stage::Answered {
-            return Some(End::Broken(Fault::Stream(Code::Protocol)));
+            return Some(failed(Code::Protocol));
         }
-        if last {
-            return Some(End::Status(None));
+        let Some(left) = without(self.left, count) else {
+            return Some(failed(Code::Protocol));
+        };
+        if !last {
+            self.left = left;
+            return None;
         }
-        None
+        if !is_whole(left) {
+            return Some(failed(Code::Protocol));
+        }
+        Some(End::Status(None))
     }
 }

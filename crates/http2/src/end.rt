@@ -15,10 +15,13 @@ pub enum End {
     Reset(u32),
     /// The peer goes away and will not serve the call; the code says why (RFC 9113, 6.8).
     Away(u32),
-    /// The answer is no answer of gRPC: its status is not 200, or its content is of another type.
-    Refused,
+    /// The answer is no answer of gRPC: its status of HTTP is not 200, or its content is of another type. The status, and
+    /// its grpc-status; if that was not told, the one that the status means.
+    Refused(u32, u32),
     /// The call ended, with this grpc-status if it was told.
     Status(Option<u32>),
+    /// The client gave the call up.
+    Cancelled,
 }
 
 /// The connection broke with this code.
@@ -26,6 +29,13 @@ pub(crate) fn broken(code: Code) -> End
     ensures { result ≡ End.Broken (Fault.Connection code) }
 {
     End::Broken(Fault::Connection(code))
+}
+
+/// The call broke with this code.
+pub(crate) fn failed(code: Code) -> End
+    ensures { result ≡ End.Broken (Fault.Stream code) }
+{
+    End::Broken(Fault::Stream(code))
 }
 
 /// Why the call is over if the peer goes away with this payload of GOAWAY.

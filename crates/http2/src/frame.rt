@@ -119,7 +119,7 @@ fn unpadded(payload: &[u8]) -> &[u8]
 }
 
 /// The byte at a place, and 0 behind the end.
-fn byte(bytes: &[u8], at: usize) -> u8
+pub(crate) fn byte(bytes: &[u8], at: usize) -> u8
     ensures { result ≡ byte bytes.now at }
 {
     match bytes.get(at) {

@@ -1,4 +1,15 @@
-//! HTTP/2 (RFC 9113) in cleartext with prior knowledge: frames in any cutting, and a client with one call.
+//! HTTP/2 (RFC 9113) in cleartext with prior knowledge: frames in any cutting, and a client with one call of gRPC.
+//!
+//! A [`Tunnel`] has no socket and no clock. Its caller moves bytes, in turns:
+//!
+//! 1. `out` has bytes for the peer: it writes the first of them, and calls `sent` and then `work`.
+//! 2. The peer sent bytes: it gives them to `receive`, again until all are taken. If none is taken, it goes on with 1.
+//! 3. `data` has bytes for the core: it hands them on, and calls `take`.
+//! 4. The core has bytes: it gives them to `say`, and keeps those that were not taken.
+//! 5. `end` says why the call is over: it hands on what `data` has, writes what `out` has, and closes the connection.
+//!
+//! `finish` says that the core has no more, `cancel` gives the call up. A caller that wants to notice a peer that vanished
+//! calls `ping` with the time: `ping_waits` has it until the peer has acknowledged.
 #![tactic(auto)]
 
 mod accounts;
@@ -8,8 +19,10 @@ mod control;
 mod cut;
 mod end;
 mod fault;
+mod fields;
 mod frame;
 pub mod laws;
+mod message;
 mod opening;
 mod pipe;
 mod queue;
@@ -20,5 +33,5 @@ pub use cut::first_frame;
 pub use end::End;
 pub use fault::{Code, Fault};
 pub use frame::Frame;
-pub use pipe::{Pipe, WINDOW};
+pub use pipe::WINDOW;
 pub use tunnel::{PENDING, Tunnel};

@@ -1,18 +1,18 @@
-//! How a client begins, and what it does with each frame.
+//! How a call begins, and what is done with each frame.
 
-ghost use Rattle.std.specs.Prelude.{◌≡◌, ◌≤◌, ◌+◌, None, true, [], List, length, OnErr, OnOk, IsTrue};
+ghost use Rattle.std.specs.Prelude.{◌≡◌, ◌≤◌, ◌+◌, ◌++◌, ◌∷◌, ℕ, None, true, [], List, map, length, OnErr, OnOk, IsTrue};
 ghost use Rattle.std.specs.List.{All};
 ghost use Rattle.hpack.specs.Field.{line_of, IsShort};
-ghost use Rattle.http2.specs.Trail.{Step, Adds, AreQuiet};
+ghost use Rattle.http2.specs.Trail.{Step, put, Adds};
 ghost use Rattle.http2.specs.Lines.{line, unread};
 ghost use Rattle.http2.specs.Call.{replies_to, AreReplies};
-ghost use Rattle.http2.specs.Tunnels.{Answers};
+ghost use Rattle.http2.specs.Tunnels.{Answers, Asks};
 
 use crate::control::Control;
 use crate::end::End;
 use crate::fault::{Code, Fault};
-use crate::frame::{Frame, HEADERS, MOST, PING, SETTINGS, UPDATE};
-use crate::pipe::{Pipe, WINDOW};
+use crate::frame::{Frame, HEADERS, MOST, PING, SETTINGS};
+use crate::pipe::Pipe;
 use hpack::{Field, encode};
 use std::alloc::{AllocError, Global};
 
@@ -46,7 +46,7 @@ pub(crate) fn reply(alloc: Global, pipe: &mut Pipe, frame: &Frame) -> Result<(),
     ensures unread { unread pipe.new ≡ unread pipe.old }
     ensures replied { OnOk result ((steps : List Step) × Adds steps (line pipe.old) (line pipe.new)
         × AreReplies steps (replies_to frame.now.bytes.items)) }
-    ensures fault { OnErr result (Adds [] (line pipe.old) (line pipe.new)) }
+    ensures fault { OnErr result (pipe.new ≡ pipe.old) }
 {
     if frame.is_acknowledgement() {
         return Ok(());
@@ -58,15 +58,12 @@ pub(crate) fn reply(alloc: Global, pipe: &mut Pipe, frame: &Frame) -> Result<(),
     }
 }
 
-/// Writes what a client says first: settings, the connection's window, and the call's fields.
-pub(crate) fn begin(alloc: Global, pipe: &mut Pipe, fields: &[Field]) -> Result<(), Fault>
-    ensures waits { length pipe.new.out ≤ length pipe.old.out + 16427 }
-    ensures law { OnOk result ((steps : List Step) × AreQuiet steps × Adds steps (line pipe.old) (line pipe.new)) }
+/// Writes the call's fields. They are refused if they are too long for a frame.
+pub(crate) fn ask(alloc: Global, pipe: &mut Pipe, fields: &[Field]) -> Result<(), Fault>
+    ensures waits { length pipe.new.out ≤ length pipe.old.out + 16393 }
+    ensures law { OnOk result ((frame : List ℕ) × Asks frame (map line_of fields.now)
+        × (pipe.new.out ≡ pipe.old.out ++ frame) × Adds (put frame ∷ []) (line pipe.old) (line pipe.new)) }
 {
-    let [a, b, c, d] = (WINDOW as u32).to_be_bytes();
-    pipe.control(alloc, SETTINGS, 0, 0, &[0, 2, 0, 0, 0, 0, 0, 4, a, b, c, d])?;
-    let more = (WINDOW as u32 - 65_535).to_be_bytes();
-    pipe.control(alloc, UPDATE, 0, 0, &more)?;
     if !are_short(fields) {
         return Err(Fault::Stream(Code::Internal));
     }

@@ -2,23 +2,26 @@
 
 ghost use Rattle.std.specs.Prelude.{◌≡◌, ◌≤◌, ◌<◌, ◌+◌, ◌-◌, ◌^◌, ◌↔◌, IsTrue, length};
 
-use crate::accounts::{after, data, flow, raise};
+use crate::accounts::{after, data, flow, ponged, raise};
 use crate::cut::first_frame;
 use crate::fault::{Code, Fault};
-use crate::frame::{DATA, Frame, HEAD, MOST, UPDATE};
+use crate::frame::{DATA, Frame, HEAD, MOST, PING, UPDATE};
 use crate::queue::Queue;
-use crate::written::written;
+use crate::written::{octets, written};
 use std::alloc::{AllocError, Global};
 
 /// The window that is announced: one message of the update stream and its head.
 pub const WINDOW: usize = 1_048_581;
 
-/// What a client says first.
-const PREFACE: &[u8; 24] = b"PRI * HTTP/2.0\r\n\r\nSM\r\n\r\n";
+/// What a client says first: the preface, its settings (no pushes, the window, and 16,384 octets for the fields of a header
+/// block), and the window of the connection, raised to the same.
+const OPENING: &[u8; 64] = b"PRI * HTTP/2.0\r\n\r\nSM\r\n\r\n\
+\x00\x00\x12\x04\x00\x00\x00\x00\x00\x00\x02\x00\x00\x00\x00\x00\x04\x00\x10\x00\x05\x00\x06\x00\x00\x40\x00\
+\x00\x00\x04\x08\x00\x00\x00\x00\x00\x00\x0f\x00\x06";
 
 /// The pipe of a client with one call, which is on stream 1.
 #[derive(Debug, Drop)]
-pub struct Pipe {
+pub(crate) struct Pipe {
     // bytes of the peer that were not looked at
     rest: Queue,
     // data for the core
@@ -35,6 +38,10 @@ pub struct Pipe {
     // how much the peer may send, and how much may be given back to it
     credit: usize,
     owed: usize,
+    // whether the last of the data were written
+    finished: bool,
+    // the mark of the ping that waits for its acknowledgement
+    waits: Option<u64>,
     ghost bounded: { length data_in + owed + credit ≡ 1048581 },
     ghost short: { length rest ≤ 16393 },
     ghost stream_sum: { stream < 2 ^ 63 },
@@ -42,22 +49,22 @@ pub struct Pipe {
 }
 
 impl Pipe {
-    ghost use Rattle.std.specs.Prelude.{◌≢◌, ◌⊎◌, min, Ok, None, Some, ◌++◌, ◌∷◌, ℕ, List, [], take, IfOk, IfErr, OnErr, OnOk};
-    ghost use Rattle.http2.specs.Frame.{IsFrame, IsPart, data_of, flow_of};
-    ghost use Rattle.http2.specs.Trail.{Step, got, put, Law, Adds, Hears, Sends, Hands, Gives, AreQuiet, allowed};
+    ghost use Rattle.std.specs.Prelude.{◌≢◌, ◌⊎◌, min, true, false, if◌then◌else◌, Ok, None, Some, ◌++◌, ◌∷◌, ℕ, List, [], take, IfOk, IfErr, OnErr, OnOk};
+    ghost use Rattle.http2.specs.Frame.{IsFrame, IsPart, data_of, flow_of, parts_of, window_by, is_ping_by};
+    ghost use Rattle.http2.specs.Trail.{Step, got, put, connected, preface, settings_frame, window_frame, Law, Adds, Hears, Sends, Hands, Gives, AreOwn, allowed};
     ghost use Rattle.http2.specs.Lines.{line, unread};
-    ghost use Rattle.http2.specs.Call.{parts_of, IsBeyond, StopsAt};
+    ghost use Rattle.http2.specs.Call.{IsBeyond, StopsAt};
     ghost use Rattle.http2.specs.declared.fault.Code.{Code};
     ghost use Rattle.http2.specs.declared.fault.Fault.TheVariants.{Memory, Connection};
     ghost use Rattle.http2.specs.declared.frame.Frame.{Frame};
 
-    /// A pipe whose peer was told nothing but the preface.
+    /// A pipe whose peer was told nothing but the opening.
     pub fn new(alloc: Global) -> Result<Pipe, AllocError>
-        ensures law { IfOk result (λ p. Law [] [] [] [] [] (line p)) }
-        ensures waits { IfOk result (λ p. length p.out ≡ 24) }
+        ensures law { IfOk result (λ p. Law connected [] [] [] [] (line p)) }
+        ensures out { IfOk result (λ p. p.out ≡ preface ++ settings_frame ++ window_frame) }
     {
         let mut out = Queue::new(alloc);
-        out.push(PREFACE)?;
+        out.push(OPENING)?;
         Ok(Pipe {
             rest: Queue::new(alloc),
             data_in: Queue::new(alloc),
@@ -68,6 +75,8 @@ impl Pipe {
             used: 0,
             credit: WINDOW,
             owed: 0,
+            finished: false,
+            waits: None,
         })
     }
 
@@ -136,6 +145,7 @@ impl Pipe {
         self.connection = connection;
         self.credit -= count;
         self.owed += count - data.len();
+        self.waits = ponged(self.waits, frame);
         Ok(())
     }
 
@@ -174,7 +184,7 @@ impl Pipe {
         self.out.skip(count);
     }
 
-    /// Writes a frame without data.
+    /// Writes a frame that changes no sum: the call's fields, an acknowledgement, a reset, or GOAWAY.
     pub fn control(
         &mut self,
         alloc: Global,
@@ -183,37 +193,22 @@ impl Pipe {
         stream: u32,
         payload: &[u8],
     ) -> Result<(), AllocError>
-        requires kind { kind ≢ 0 }
+        requires kind { (kind ≢ 0) × (kind ≢ 8) }
+        requires window { (w : ℕ) → window_by kind payload.now w ≡ w }
+        requires ping { is_ping_by kind flags ≡ false }
         requires small { length payload.now ≤ 16384 }
         requires stream { stream < 2147483648 }
         ensures waits { length self.new.out ≤ length self.old.out + 9 + length payload.now }
         ensures rest { self.new.rest ≡ self.old.rest }
-        ensures data_in { self.new.data_in ≡ self.old.data_in }
-        ensures credit { self.new.credit ≡ self.old.credit }
-        ensures owed { self.new.owed ≡ self.old.owed }
         ensures unread { unread self.new ≡ unread self.old }
+        ensures owed { self.new.owed ≡ self.old.owed }
         ensures law { OnOk result ((frame : List ℕ)
             × (parts_of frame ≡ record { kind = kind; flags = flags; stream = stream; payload = payload.now })
+            × (self.new.out ≡ self.old.out ++ frame)
             × Adds (put frame ∷ []) (line self.old) (line self.new)) }
-        ensures fault { OnErr result (Adds [] (line self.old) (line self.new)) }
+        ensures fault { OnErr result (self.new ≡ self.old) }
     {
         let frame = written(alloc, kind, flags, stream, payload)?;
-        self.write(alloc, &frame)
-    }
-
-    // Writes a frame that brings no data and does not count.
-    fn write(&mut self, alloc: Global, frame: &Frame) -> Result<(), AllocError>
-        requires empty { data_of frame.now.bytes.items ≡ [] }
-        requires free { flow_of frame.now.bytes.items ≡ 0 }
-        ensures waits { length self.new.out ≤ length self.old.out + length frame.now.bytes.items }
-        ensures rest { self.new.rest ≡ self.old.rest }
-        ensures data_in { self.new.data_in ≡ self.old.data_in }
-        ensures credit { self.new.credit ≡ self.old.credit }
-        ensures owed { self.new.owed ≡ self.old.owed }
-        ensures unread { unread self.new ≡ unread self.old }
-        ensures law { OnOk result (Adds (put frame.now.bytes.items ∷ []) (line self.old) (line self.new)) }
-        ensures fault { OnErr result (Adds [] (line self.old) (line self.new)) }
-    {
         self.out.push(&frame.bytes)?;
         Ok(())
     }
@@ -231,15 +226,19 @@ impl Pipe {
     }
 
     /// Writes the first of the core's bytes as data, as far as both windows and the greatest frame allow. Returns how
-    /// many.
+    /// many. There are none behind the last.
     pub fn say(&mut self, alloc: Global, bytes: &[u8]) -> Result<usize, AllocError>
         ensures waits { length self.new.out ≤ length self.old.out + 16393 }
         ensures count { IfOk result (λ n. n ≤ length bytes.now) }
-        ensures most { IfOk result (λ n. n ≡ min (min (length bytes.now) 16384) (allowed (line self.old))) }
-        ensures law { IfOk result (λ n. (steps : List Step) × AreQuiet steps
+        ensures most { IfOk result (λ n. n ≡ (if self.old.finished then 0
+            else min (min (length bytes.now) 16384) (allowed (line self.old)))) }
+        ensures law { IfOk result (λ n. (steps : List Step) × AreOwn steps
             × Gives steps (take n bytes.now) (line self.old) (line self.new)) }
         ensures fault { OnErr result (Adds [] (line self.old) (line self.new)) }
     {
+        if self.finished {
+            return Ok(0);
+        }
         let count = bytes.len().min(MOST).min(self.room());
         if count == 0 {
             return Ok(0);
@@ -251,27 +250,66 @@ impl Pipe {
         Ok(count)
     }
 
-    /// Says that no more data come.
+    /// Says that no more data come, unless that was said.
     pub fn finish(&mut self, alloc: Global) -> Result<(), AllocError>
-        ensures law { (steps : List Step) × AreQuiet steps × Adds steps (line self.old) (line self.new) }
+        ensures waits { length self.new.out ≤ length self.old.out + 9 }
+        ensures finished { OnOk result (self.new.finished ≡ true) }
+        ensures unread { unread self.new ≡ unread self.old }
+        ensures law { (steps : List Step) × AreOwn steps × Adds steps (line self.old) (line self.new) }
+        ensures fault { OnErr result (self.new ≡ self.old) }
     {
+        if self.finished {
+            return Ok(());
+        }
         let frame = written(alloc, DATA, 1, 1, &[])?;
-        self.write(alloc, &frame)
+        self.out.push(&frame.bytes)?;
+        self.finished = true;
+        Ok(())
     }
 
-    /// Gives windows back, once at least this much may be given.
+    /// Writes a ping with this mark.
+    pub fn ping(&mut self, alloc: Global, mark: u64) -> Result<(), AllocError>
+        ensures waits { length self.new.out ≤ length self.old.out + 17 }
+        ensures ping { OnOk result (self.new.waits ≡ Some mark) }
+        ensures unread { unread self.new ≡ unread self.old }
+        ensures law { (steps : List Step) × AreOwn steps × Adds steps (line self.old) (line self.new) }
+        ensures fault { OnErr result (self.new ≡ self.old) }
+    {
+        let [a, b, c, d] = octets((mark / 4_294_967_296) as u32);
+        let [e, f, g, h] = octets((mark % 4_294_967_296) as u32);
+        let frame = written(alloc, PING, 0, 0, &[a, b, c, d, e, f, g, h])?;
+        self.out.push(&frame.bytes)?;
+        self.waits = Some(mark);
+        Ok(())
+    }
+
+    /// The mark of the ping that waits for its acknowledgement.
+    pub fn waits(&self) -> Option<u64>
+        ensures { result ≡ self.now.waits }
+    {
+        self.waits
+    }
+
+    /// Gives windows back, once at least this much may be given: as much to the stream as to the connection.
     pub fn give_back(&mut self, alloc: Global, least: usize) -> Result<(), AllocError>
+        requires { 0 < least }
         ensures waits { length self.new.out ≤ length self.old.out + 26 }
+        ensures longer { length self.old.out ≤ length self.new.out }
         ensures rest { self.new.rest ≡ self.old.rest }
-        ensures law { (steps : List Step) × AreQuiet steps × Adds steps (line self.old) (line self.new) }
+        ensures owed { OnOk result (self.new.owed < least) }
+        ensures law { (steps : List Step) × AreOwn steps × Adds steps (line self.old) (line self.new) }
+        ensures fault { OnErr result (self.new ≡ self.old) }
     {
         let owed = self.owed;
         if owed == 0 || owed < least {
             return Ok(());
         }
-        let payload = (owed as u32).to_be_bytes();
-        self.control(alloc, UPDATE, 0, 0, &payload)?;
-        self.control(alloc, UPDATE, 0, 1, &payload)?;
+        let payload = octets(owed as u32);
+        let connection = written(alloc, UPDATE, 0, 0, &payload)?;
+        let stream = written(alloc, UPDATE, 0, 1, &payload)?;
+        let mut both = Vec::from_slice(alloc, &connection.bytes)?;
+        both.extend_from_slice(&stream.bytes)?;
+        self.out.push(&both)?;
         self.credit += owed;
         self.owed = 0;
         Ok(())

@@ -1,7 +1,7 @@
 use Rattle.std.proofs.Common.{ℕ, List, [], ◌∷◌, refl, sym, ap, ◌∙◌, false, true, rules}
 use Rattle.std.proofs.lemmas.Result.{on_ok_weaker}
 use Rattle.http2.specs.Trail.{put}
-use Rattle.http2.specs.Call.{Parts}
+use Rattle.http2.specs.Frame.{Parts}
 use Rattle.http2.proofs.Calls.{reply_of, no_reply_to, no_reply_by, reply_to, replies_by}
 use Rattle.http2.proofs.opening.reply.Goals as goal
 
@@ -14,7 +14,7 @@ returns-in-4-clause-replied c =
     let frame : List ℕ = c.args.frame.now.bytes.items in
     on_ok_weaker c.control.result (λ written. (
       put written.0 ∷ [],
-      written.2,
+      written.3,
       (
         reply_of written.0 _ true written.1 refl,
         reply_to frame 4 (sym c.kind.ensures ∙ c.in-4.is) (sym c.if-is_acknowledgement.ensures)
@@ -28,7 +28,7 @@ returns-in-6-clause-replied c =
     let frame : List ℕ = c.args.frame.now.bytes.items in
     on_ok_weaker c.control-in-6.result (λ written. (
       put written.0 ∷ [],
-      written.2,
+      written.3,
       (
         reply_of written.0 _ true written.1 refl,
         reply_to frame 6 (sym c.kind.ensures ∙ c.in-6.is) (sym c.if-is_acknowledgement.ensures)

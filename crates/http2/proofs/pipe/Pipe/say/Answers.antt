@@ -1,9 +1,10 @@
-use Rattle.std.proofs.Common.{◌≡◌, ◌≤◌, ◌<◌, ◌+◌, List, [], ◌∷◌, ℕ, ap, refl, sym, ◌∙◌, length, take, arith, rules}
-use Rattle.http2.specs.Frame.{IsFrame, flow_of, data_of}
-use Rattle.http2.specs.Trail.{Line, put}
+use Rattle.std.proofs.Common.{◌≡◌, ◌≤◌, ◌<◌, ◌+◌, false, List, [], ◌∷◌, ℕ, ap, ap₂, refl, sym, ◌∙◌, length, take, arith, rules}
+use Rattle.http2.specs.Frame.{IsFrame, flow_of}
+use Rattle.http2.specs.Trail.{Line, put, own_data}
 use Rattle.http2.specs.Lines.{line}
-use Rattle.http2.proofs.Keeping.{law_put, other_reply}
-use Rattle.http2.proofs.Frames.{plain_data, plain_flow}
+use Rattle.http2.proofs.Frames.{plain_flow}
+use Rattle.http2.proofs.Keeping.{law_put, law_same}
+use Rattle.http2.proofs.Putting.{data_puts}
 use Rattle.http2.proofs.pipe.Pipe.say.Goals as goal
 
 pub returns-clause-law : goal.returns-clause-law
@@ -15,18 +16,24 @@ returns-clause-law c =
     let part : List ℕ = take n c.args.bytes.now in
     let long : length part ≡ n = search rules in
     let whole : IsFrame frame = record { whole = c.in_ok-frame.frame.whole; small = c.in_ok-frame.frame.small } in
-    let payload = is.payload in
-    let brings : data_of frame ≡ part = plain_data frame part 0 is.kind is.stream is.flags payload refl in
-    let flow : flow_of frame ≡ n = plain_flow frame part is.kind payload ∙ long in
+    let flow : flow_of frame ≡ n = plain_flow frame part is.kind is.payload ∙ long in
     let some : 0 < c.room.result = search rules in
     let less : n ≤ c.room.result = search rules in
     let stream : old.used + flow_of frame ≤ old.window + old.stream = omega (arith, flow, less, c.room.ensures.stream some) in
     let connection : old.used + flow_of frame ≤ 65535 + old.connection = omega (arith, flow, less, c.room.ensures.connection some) in
     let used : old.used + n ≡ old.used + flow_of frame = ap (λ (k : ℕ). old.used + k) (sym flow) in
     let out = rw c.deref.ensures.value at c.in_ok-push.ensures.found in
-    let quiet = other_reply frame 0 is.kind (λ four. absurd (omega (arith, four))) (λ six. absurd (omega (arith, six))) in (
+    let going : old.finished ≡ false = search rules in (
       put frame ∷ [],
-      (quiet, tt),
+      (own_data is.kind is.stream, tt),
       λ trail came sent took gave law.
-          law_put trail came sent took gave old _ frame part whole brings (λ _. (stream, connection)) refl refl out refl refl refl used law,
+          law_put trail came sent took gave old _ frame part
+          (data_puts frame part 0 old _ whole is.kind is.stream is.flags is.payload refl going (λ _. (stream, connection))
+          (ap₂ (λ (t : List ℕ) (k : ℕ). record old { out = t; used = k }) out used)) law,
     )
+
+pub returns-then-self-clause-law : goal.returns-then-self-clause-law
+returns-then-self-clause-law c = ([], tt, law_same (line c.args.self.now))
+
+pub returns-then-count-eq0-clause-law : goal.returns-then-count-eq0-clause-law
+returns-then-count-eq0-clause-law c = ([], tt, law_same (line c.args.self.now))

@@ -17,20 +17,20 @@ returns-in-Ok-Some-clause-shorter c = λ _.
     omega (arith, frame.whole, lengths, sum, same)
 
 pub returns-in-Ok-Some-clause-keeps : goal.returns-in-Ok-Some-clause-keeps
-returns-in-Ok-Some-clause-keeps c = λ came sent took gave law.
+returns-in-Ok-Some-clause-keeps c = λ first came sent took gave law.
     let got = c.in-Ok-Some.ensures.law c.in-Ok-Some.frame (ap (λ o. Ok o) c.in-Ok-Some.field-0-is) law.trail came sent took gave law.law in
-    let later = c.act-self.ensures.answers law.trail came sent took gave got
+    let later = c.act-self.ensures.answers first law.trail came sent took gave got law.is_after.begins
     (law.is_after.going c.requires.open) (law.is_after.answered c.requires.open) in
     record { trail = later.0; law = later.1; is_after = later.2 }
 
 pub returns-in-Err-clause-keeps : goal.returns-in-Err-clause-keeps
-returns-in-Err-clause-keeps c = λ came sent took gave law.
+returns-in-Err-clause-keeps c = λ first came sent took gave law.
     let old = c.args.self.now in
     let fault = c.in-Err.ensures.fault in
     let end : End = Broken c.in-Err.fault in
     record {
       trail = law.trail;
       law = fault.2 law.trail came sent took gave law.law;
-      is_after = is_ended law.trail (control_view old.control) (Some end) (unread c.next.new.self) end refl
-          (by_fault (control_view old.control) (law.is_after.going c.requires.open) c.in-Err.fault refl (rw fault.1 fault.0));
+      is_after = is_ended first law.trail (control_view old.control) (Some end) (unread c.next.new.self) end refl law.is_after.begins
+          (by_fault (control_view old.control) (law.is_after.going c.requires.open) refl c.in-Err.fault refl (rw fault.1 fault.0));
     }

@@ -5,21 +5,21 @@ use Rattle.http2.proofs.Calls.{none_of, quiet_after, going_after}
 use Rattle.http2.proofs.tunnel.Tunnel.take.Goals as goal
 
 pub returns-then-is_some : goal.returns-then-is_some
-returns-then-is_some c = λ came sent took gave law. record {
+returns-then-is_some c = λ first came sent took gave law. record {
   trail = law.trail;
   law = c.take.ensures.law law.trail came sent took gave law.law;
   is_after = rw c.take.ensures.unread law.is_after;
 }
 
 pub returns-then-out-gt-PENDING : goal.returns-then-out-gt-PENDING
-returns-then-out-gt-PENDING c = λ came sent took gave law. record {
+returns-then-out-gt-PENDING c = λ first came sent took gave law. record {
   trail = law.trail;
   law = c.take.ensures.law law.trail came sent took gave law.law;
   is_after = rw c.take.ensures.unread law.is_after;
 }
 
 pub returns : goal.returns
-returns c = λ came sent took gave law.
+returns c = λ first came sent took gave law.
     let old = c.args.self.now in
     let none : old.end ≡ None = none_of old.end c.if-is_some.ensures in
     let written = c.give_back.ensures.law in
@@ -27,6 +27,6 @@ returns c = λ came sent took gave law.
       trail = written.0 ++ law.trail;
       law = written.2 law.trail came sent (took ++ take c.args.count old.pipe.data_in) gave
           (c.take.ensures.law law.trail came sent took gave law.law);
-      is_after = going_after (written.0 ++ law.trail) (control_view old.control) old.end (unread old.pipe) _ none
-          (quiet_after written.0 law.trail (control_view old.control) old.end (unread old.pipe) written.1 law.is_after);
+      is_after = going_after first (written.0 ++ law.trail) (control_view old.control) old.end (unread old.pipe) _ none
+          (quiet_after first written.0 law.trail (control_view old.control) old.end (unread old.pipe) written.1 law.is_after);
     }

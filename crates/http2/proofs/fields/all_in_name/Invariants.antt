@@ -1,0 +1,9 @@
+use Rattle.std.proofs.Common.{◌≡◌, length}
+use Rattle.http2.specs.Fields.{all_in_name}
+use Rattle.http2.proofs.fields.all_in_name.Given as goal
+
+abbrev pub invariant-bytes : goal.invariant-bytes
+invariant-bytes l = all_in_name l.rest ≡ all_in_name l.fn.name
+
+abbrev pub decreases-bytes : goal.decreases-bytes
+decreases-bytes l = length l.rest

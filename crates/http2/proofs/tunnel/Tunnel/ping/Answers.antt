@@ -1,0 +1,27 @@
+use Rattle.std.proofs.Common.{◌++◌}
+use Rattle.http2.specs.Lines.{unread}
+use Rattle.http2.specs.Controls.{control_view}
+use Rattle.http2.proofs.Calls.{quiet_after}
+use Rattle.http2.proofs.tunnel.Tunnel.ping.Goals as goal
+
+pub returns-in_err-ping-clause-keeps : goal.returns-in_err-ping-clause-keeps
+returns-in_err-ping-clause-keeps c =
+    let old = c.args.self.now in
+    let written = c.in_err-ping.ensures.law in
+    λ first came sent took gave law. record {
+      trail = written.0 ++ law.trail;
+      law = written.2 law.trail came sent took gave law.law;
+      is_after = rw c.in_err-ping.ensures.unread
+          (quiet_after first written.0 law.trail (control_view old.control) old.end (unread old.pipe) written.1 law.is_after);
+    }
+
+pub returns-clause-keeps : goal.returns-clause-keeps
+returns-clause-keeps c =
+    let old = c.args.self.now in
+    let written = c.in_ok-ping.ensures.law in
+    λ first came sent took gave law. record {
+      trail = written.0 ++ law.trail;
+      law = written.2 law.trail came sent took gave law.law;
+      is_after = rw c.in_ok-ping.ensures.unread
+          (quiet_after first written.0 law.trail (control_view old.control) old.end (unread old.pipe) written.1 law.is_after);
+    }
