@@ -4,9 +4,13 @@ import http.client
 import json
 import os
 import pathlib
+import queue
 import socket
 import subprocess
+import sys
+import tempfile
 import time
+import traceback
 
 from loopback import free_port, heard, listens
 from replays import ANY_ANY, allowed, denied, field, number, request, resource, response
@@ -319,3 +323,35 @@ class Server:
 
 # a filter with a field that no filter has
 REFUSED = b"\x22\x00"
+
+
+def scale_of(program):
+    """How much longer than a proved program it may take."""
+    return 4 if b"not proved" in subprocess.run([program, "--version"], capture_output=True, check=True).stdout else 1
+
+
+def tried(it, program, scale):
+    """What went wrong in a case."""
+    with tempfile.TemporaryDirectory() as folder, contextlib.ExitStack() as ends:
+        case = Case(program, pathlib.Path(folder), ends, scale)
+        try:
+            it(case)
+        except (OSError, EOFError, subprocess.TimeoutExpired, ValueError, LookupError, queue.Empty):
+            case.wrong.append(traceback.format_exc())
+        return case.wrong
+
+
+def run_cases(title, cases, program, names):
+    """Runs the cases of these names, or all of them, and prints how each ended; 1 where something else came than is said, else 0."""
+    if unknown := [name for name in names if name not in cases]:
+        sys.exit(f"there is no case {unknown[0]}; the cases are {' '.join(cases)}")
+    scale, wrong = scale_of(program), 0
+    for name in names or cases:
+        begin = time.monotonic()
+        found = tried(cases[name], program, scale)
+        print(f"{name}: {'as said' if not found else f'{len(found)} wrong'} ({time.monotonic() - begin:.1f} s)", flush=True)
+        for it in found:
+            print("  " + it.replace("\n", "\n  "), flush=True)
+        wrong += bool(found)
+    print(f"{title}: {'all as said' if not wrong else f'{wrong} cases are wrong'}")
+    return 1 if wrong else 0

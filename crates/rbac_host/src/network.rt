@@ -77,6 +77,11 @@ impl<'r, R: Net + Files + Clock + Input> HostNetwork<'r, R> {
         port.turn(&mut self.sockets, &mut self.admin_ready, admin, now)
     }
 
+    /// Why the last call to a control plane of gRPC ended, if that was not reported yet.
+    pub(crate) fn take_end_words(&self) -> Option<String> {
+        self.sockets.take_end_words()
+    }
+
     /// Why the control plane could not be reached, if that was not reported yet.
     pub(crate) fn take_unreached(&mut self) -> Option<String> {
         self.unreached.take()

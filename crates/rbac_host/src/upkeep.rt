@@ -63,6 +63,9 @@ impl Upkeep {
         if let Some(cause) = network.take_unreached() {
             observed.log_update(&Update::Unreachable(cause.as_str()));
         }
+        if let Some(cause) = network.take_end_words() {
+            observed.log_update(&Update::Ended(cause.as_str()));
+        }
         observed.admin.status.drains = network.drains;
         observed.admin.metrics.tick(now);
         observed.logs.flush(now);

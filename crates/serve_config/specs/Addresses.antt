@@ -40,6 +40,10 @@ IsControlAddress text (planes.Unix path) =
     (text ≡ codes "unix:" ++ string_bytes path) × IsUnixPath (string_bytes path)
 IsControlAddress text (planes.File path) =
     (text ≡ codes "file:" ++ string_bytes path) × IsPath (string_bytes path)
+IsControlAddress text (planes.GrpcTcp a) =
+    (rest : List ℕ) × (text ≡ codes "grpc://" ++ rest) × IsSocketText rest a × (0 < socket_port a)
+IsControlAddress text (planes.GrpcUnix path) =
+    (text ≡ codes "grpc+unix:" ++ string_bytes path) × IsUnixPath (string_bytes path)
 
 -- the value is a text that spells this address
 abbrev pub IsAddressText : Data → Address → Type 0

@@ -1,4 +1,5 @@
 pub mod Addresses
+pub mod Calls
 pub mod Members
 pub mod Maps
 pub mod Settings

@@ -4,6 +4,7 @@ use Rattle.serde_json.specs.Data.{Data}
 use Rattle.serde_json.specs.Find.{get}
 use Rattle.program_texts.specs.Members.{HasOnly}
 use Rattle.serve_config.specs.Addresses.{AreAddresses, IsAdmin, IsControlText}
+use Rattle.serve_config.specs.Calls.{IsCallFor}
 use Rattle.serve_config.specs.Maps.{IsMappingBy, IsPathsBy}
 use Rattle.serve_config.specs.Members.{IsFlag, IsNumberFrom, IsOrNull, IsPathText, member_of}
 use Rattle.serve_config.specs.declared.config.AccessLog.{AccessLog}
@@ -14,7 +15,7 @@ use Rattle.serve_config.specs.declared.config.Timeouts.{Timeouts}
 -- the names that settings may have
 abbrev pub setting_names : List (List ℕ)
 setting_names =
-    codes "proxy" ∷ codes "facts" ∷ codes "listen" ∷ codes "control" ∷ codes "admin" ∷ codes "connections" ∷ codes "pending"
+    codes "proxy" ∷ codes "facts" ∷ codes "listen" ∷ codes "control" ∷ codes "grpc" ∷ codes "admin" ∷ codes "connections" ∷ codes "pending"
     ∷ codes "timeouts" ∷ codes "backoff" ∷ codes "nack_pause" ∷ codes "access_log" ∷ codes "update_log" ∷ codes "record"
     ∷ codes "until_eof" ∷ codes "map" ∷ codes "require" ∷ codes "paths" ∷ []
 
@@ -74,6 +75,7 @@ pub record AreSettings (d : Option Data) (c : ServeConfig) : Type 0 where
   pub proxy : IsSome (member_of (codes "proxy") d)
   pub listen : IsSomeAnd (member_of (codes "listen") d) (λ l. AreAddresses l c.listen.items)
   pub control : IsSomeAnd (member_of (codes "control") d) (λ a. IsControlText a c.control)
+  pub grpc : IsCallFor c.control (member_of (codes "grpc") d) c.grpc
   pub admin : IsOrNull IsAdmin (member_of (codes "admin") d) c.admin
   pub connections : IsNumberFrom 1 100000 1024 (member_of (codes "connections") d) c.connections
   pub pending : IsNumberFrom 1 16777216 65536 (member_of (codes "pending") d) c.pending

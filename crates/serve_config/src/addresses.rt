@@ -1,6 +1,8 @@
 //! Reads the addresses of a configuration.
-ghost use Rattle.std.specs.Prelude.{◌≡◌, ◌++◌, ◌↔◌, ℤ, IfOk, IfSome, IsNone, IsSomeAnd, IsTrue, codes, map, string_bytes};
+ghost use Rattle.std.specs.Prelude.{◌≡◌, ◌++◌, ◌↔◌, ◌<◌, ℤ, IfOk, IfSome, IsNone, IsSomeAnd, IsTrue, codes, map, string_bytes};
 ghost use Rattle.std.specs.List.{AllZip};
+ghost use Rattle.std.specs.Net.Grammar.{IsSocketText};
+ghost use Rattle.std.specs.Net.Socket.{socket_port};
 ghost use Rattle.serde_json.specs.View.{view};
 ghost use Rattle.serve_config.specs.Addresses.{AreAddresses, IsAddress, IsAddressText, IsAdmin, IsControlAddress, IsControlText, IsDescriptor, IsLocalPort, IsUnixPath};
 ghost use Rattle.serve_config.specs.Members.{IsOrNull, data_of, member_of};
@@ -23,7 +25,7 @@ const BAD_ADDRESS: &str =
     "is not a text such as \"127.0.0.1:8080\", \"[::1]:8080\", \"unix:PATH\" or \"fd:3\"";
 
 const BAD_CONTROL: &str =
-    "is not a text such as \"127.0.0.1:8080\", \"[::1]:8080\", \"unix:PATH\" or \"file:PATH\"";
+    "is not a text such as \"127.0.0.1:8080\", \"unix:PATH\", \"file:PATH\", \"grpc://127.0.0.1:8080\" or \"grpc+unix:PATH\"";
 
 const BAD_ADMIN: &str =
     "is not null, a port number from 0 to 65535, or a text such as \"127.0.0.1:8080\" or \"[::1]:8080\"";
@@ -149,8 +151,21 @@ fn control_of(whole: Object, text: &str) -> Result<ControlAddress, ServeConfigFa
         }
         return Ok(ControlAddress::File(String::from_str(whole.alloc, path)?));
     }
+    if let Some(path) = text.strip_prefix("grpc+unix:") {
+        return Ok(ControlAddress::GrpcUnix(unix_path(whole, "control", path)?));
+    }
+    if let Some(rest) = text.strip_prefix("grpc://") {
+        return Ok(ControlAddress::GrpcTcp(plane_at(whole, rest)?));
+    }
+    Ok(ControlAddress::Tcp(plane_at(whole, text)?))
+}
+
+/// The TCP address of the control plane that a text spells. Its port is not 0.
+fn plane_at(whole: Object, text: &str) -> Result<SocketAddr, ServeConfigFault>
+    ensures { IfOk result (λ a. IsSocketText text.now a × (0 < socket_port a)) }
+{
     match text.parse::<SocketAddr>() {
-        Ok(address) if address.port() > 0 => Ok(ControlAddress::Tcp(address)),
+        Ok(address) if address.port() > 0 => Ok(address),
         _ => Err(whole.refuse("control", BAD_CONTROL)),
     }
 }

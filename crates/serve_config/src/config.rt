@@ -1,6 +1,7 @@
 //! The settings of a server.
 
 use crate::address::{Address, ControlAddress};
+use crate::grpc::GrpcCall;
 use head_map::Mapping;
 use std::net::SocketAddr;
 
@@ -12,6 +13,8 @@ pub struct ServeConfig {
     pub listen: Vec<Address>,
     /// Where its control plane is.
     pub control: ControlAddress,
+    /// How its control plane is called, if it speaks gRPC.
+    pub grpc: GrpcCall,
     /// Where the admin port is, if there is one.
     pub admin: Option<SocketAddr>,
     /// How many connections are served at once, from 1 to 100,000.

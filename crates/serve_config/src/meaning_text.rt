@@ -1,6 +1,7 @@
 //! The meaning of the settings, in lines for their author.
 
 use crate::config::{Paths, ServeConfig, Timeouts};
+use crate::grpc::{CallMethod, GrpcCall};
 use head_map::{Fact, Mapping, fact_name};
 use std::alloc::{AllocError, Global};
 use std::fmt::Write;
@@ -14,6 +15,9 @@ pub fn meaning(alloc: Global, config: &ServeConfig) -> Result<String, AllocError
         writeln!(text, "listen {address}")?;
     }
     writeln!(text, "control {}", config.control)?;
+    if config.control.is_grpc() {
+        write_call(&mut text, &config.grpc)?;
+    }
     match config.admin {
         Some(address) => writeln!(text, "admin {address}")?,
         None => text.push_str("admin none\n")?,
@@ -28,6 +32,22 @@ pub fn meaning(alloc: Global, config: &ServeConfig) -> Result<String, AllocError
         text.push_str("paths strict\n")?;
     }
     Ok(text)
+}
+
+/// The line of the call. Of the fields that are sent with it, it has only the names.
+fn write_call(text: &mut String, call: &GrpcCall) -> Result<(), AllocError> {
+    let method = match call.method {
+        CallMethod::Ads => "ads",
+        CallMethod::Ecds => "ecds",
+    };
+    write!(text, "grpc method {method}")?;
+    if let Some(authority) = &call.authority {
+        write!(text, " authority {authority}")?;
+    }
+    for field in &call.metadata {
+        write!(text, " metadata {}", field.name)?;
+    }
+    writeln!(text, " keepalive {} milliseconds", call.keepalive)
 }
 
 /// The lines of the times.

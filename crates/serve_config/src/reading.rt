@@ -7,17 +7,19 @@ ghost use Rattle.serve_config.specs.Settings.{AreSettings, AreTimeouts, AreWaits
 use crate::addresses::{admin_at, control_at, listen_at};
 use crate::config::{AccessLog, Record, ServeConfig, Timeouts};
 use crate::fault::ServeConfigFault;
+use crate::grpc::call_at;
 use crate::map::{mapping_at, paths_at};
 use crate::object::Object;
 use serde_json::Value;
 use std::alloc::Global;
 
 /// The members that a configuration may have.
-const NAMES: [&str; 17] = [
+const NAMES: [&str; 18] = [
     "proxy",
     "facts",
     "listen",
     "control",
+    "grpc",
     "admin",
     "connections",
     "pending",
@@ -51,6 +53,7 @@ pub fn read_serve_config(alloc: Global, value: &Value) -> Result<ServeConfig, Se
     whole.required("proxy")?;
     let listen = listen_at(whole)?;
     let control = control_at(whole)?;
+    let grpc = call_at(whole, &control)?;
     let admin = admin_at(whole)?;
     let connections = whole.number("connections", &(1..=100_000), 1_024)? as usize;
     let pending = whole.number("pending", &(1..=16_777_216), 65_536)? as usize;
@@ -66,6 +69,7 @@ pub fn read_serve_config(alloc: Global, value: &Value) -> Result<ServeConfig, Se
     Ok(ServeConfig {
         listen,
         control,
+        grpc,
         admin,
         connections,
         pending,

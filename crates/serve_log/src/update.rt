@@ -47,6 +47,8 @@ pub enum Update<'a> {
     Up,
     /// It could not be connected, for this cause.
     Unreachable(&'a str),
+    /// The call that it is was ended, for this cause.
+    Ended(&'a str),
     /// It was lost, for the reason of this word.
     Lost(&'a str),
     /// A response was accepted.
@@ -56,7 +58,7 @@ pub enum Update<'a> {
 }
 
 /// The line of an update: a JSON object. Its time is in milliseconds since 1970. A stream has the member `stream`
-/// (`up`, `unreachable` with `cause`, or `lost` with `reason`), a response the member `update` (`acknowledged` or
+/// (`up`, `unreachable` or `ended` with `cause`, or `lost` with `reason`), a response the member `update` (`acknowledged` or
 /// `refused`). The number of a reason is `refused`, and what is not known is `null`.
 pub fn update_line(alloc: Global, time: u64, update: &Update<'_>) -> Result<String, AllocError> {
     let mut object = Object::new(alloc);
@@ -65,6 +67,10 @@ pub fn update_line(alloc: Global, time: u64, update: &Update<'_>) -> Result<Stri
         Update::Up => object.put_text("stream", "up")?,
         Update::Unreachable(cause) => {
             object.put_text("stream", "unreachable")?;
+            object.put_text("cause", cause)?;
+        }
+        Update::Ended(cause) => {
+            object.put_text("stream", "ended")?;
             object.put_text("cause", cause)?;
         }
         Update::Lost(reason) => {

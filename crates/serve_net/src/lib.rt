@@ -5,13 +5,17 @@
 #![tactic(auto)]
 
 mod accepted;
+mod call_end;
+mod call_fields;
 mod control;
 mod event;
 mod fault;
 mod file;
 mod frame;
+mod grpc;
 mod inherited;
 mod input;
+mod link;
 mod listeners;
 mod nonblocking;
 mod places;
@@ -25,6 +29,7 @@ pub use accepted::Accepted;
 pub use event::Ready;
 pub use fault::OpenFault;
 pub use file::{FileStream, MOST_CONTENTS};
+pub use grpc::GrpcStream;
 pub use nonblocking::unblock;
 pub use places::Places;
 pub use sockets::Sockets;

@@ -78,7 +78,7 @@ impl<'r, R: Net + Files + Clock + Input> Sockets<'r, R> {
             listeners,
             admin,
             input,
-            control: ControlPlane::new(&config.control)?,
+            control: ControlPlane::new(alloc, config)?,
         })
     }
 
@@ -103,6 +103,7 @@ impl<'r, R: Net + Files + Clock + Input> Sockets<'r, R> {
             ready.push(Ready::Listener)?;
         }
         let now = self.now()?;
+        self.control.tell(now);
         if reads_input && self.input_ends()? {
             ready.push(Ready::Drain)?;
         }
@@ -169,6 +170,11 @@ impl<'r, R: Net + Files + Clock + Input> Sockets<'r, R> {
         let token = named(Ready::Control)?;
         self.control
             .connect(self.alloc, self.rt, self.poll.registry(), token)
+    }
+
+    /// Why the last call to a control plane of gRPC ended, in words, if that was not taken yet.
+    pub fn take_end_words(&self) -> Option<String> {
+        self.control.take_end_words()
     }
 
     /// The addresses at which TCP connections are accepted. Those of inherited sockets come first, and then the others,

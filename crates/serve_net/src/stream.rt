@@ -1,6 +1,7 @@
 //! Streams that do not wait.
 
 use crate::file::FileStream;
+use crate::grpc::GrpcStream;
 use crate::tcp::TcpLink;
 use mio::net::UnixStream;
 use std::io::{self, Read, Write};
@@ -13,6 +14,8 @@ pub enum NetStream {
     Unix(UnixStream),
     /// The contents of a file, for a control plane that is one.
     File(FileStream),
+    /// A call by gRPC, for a control plane that speaks it.
+    Grpc(GrpcStream),
 }
 
 impl NetStream {
@@ -24,6 +27,7 @@ impl NetStream {
                 let _ = stream.shutdown(Shutdown::Write);
             }
             NetStream::File(_) => {}
+            NetStream::Grpc(stream) => stream.finish(),
         }
     }
 }
@@ -34,6 +38,7 @@ impl Read for NetStream {
             NetStream::Tcp(stream) => stream.read(buf),
             NetStream::Unix(stream) => stream.read(buf),
             NetStream::File(stream) => stream.read(buf),
+            NetStream::Grpc(stream) => stream.read(buf),
         }
     }
 }
@@ -44,6 +49,7 @@ impl Write for NetStream {
             NetStream::Tcp(stream) => stream.write(buf),
             NetStream::Unix(stream) => stream.write(buf),
             NetStream::File(stream) => stream.write(buf),
+            NetStream::Grpc(stream) => stream.write(buf),
         }
     }
 

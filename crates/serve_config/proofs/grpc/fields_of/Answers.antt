@@ -1,0 +1,10 @@
+-- The next field is that of the next item.
+use Rattle.serve_config.specs.Calls.{IsMetadata}
+use Rattle.serve_config.proofs.Items.{items_more}
+use Rattle.serve_config.proofs.grpc.fields_of.Goals as goal
+
+pub loop-item-preserved : goal.loop-item-preserved
+loop-item-preserved c =
+    items_more IsMetadata c.args.items.now c.loop-item.item-index c.item-item.result _ _ c.in_ok-field.field
+    c.loop-item-test.true c.loop-item.invariant (rw (← c.item-item.is) c.in_ok-field.ensures)
+    c.in_ok-push.ensures.items
