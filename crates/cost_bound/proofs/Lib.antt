@@ -9,4 +9,3 @@ pub mod Places
 pub mod Steps
 pub mod Counting
 pub mod Pairs
-pub mod Choices

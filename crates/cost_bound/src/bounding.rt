@@ -16,7 +16,7 @@ ghost use Rattle.cost_bound.specs.Budgets.{Covers, IsTooSmallFor, needs_of};
 
 use crate::budget::Budget;
 use crate::measure::measure;
-use crate::measuring::{Around, Measuring};
+use crate::measuring::Measuring;
 use attributes::Limits;
 use cel_types::Typed;
 use proto_wire::Refusal;
@@ -47,15 +47,12 @@ pub fn bound(
     ensures fault { IfErr result (MemoryOr (IsTooSmallFor budget (needs_of (typed_view typed.now) limits.now))) }
 {
     let at = Measuring {
-        around: Around {
-            limits,
-            locals: &[],
-        },
-        inner: &[],
+        limits,
+        locals: &[],
     };
-    let measured = measure(alloc, &typed.root, at, budget)?;
+    let measured = measure(alloc, &typed.root, at, budget.steps, budget.visits)?;
     Ok(Budget {
-        steps: budget.steps - measured.left.steps,
-        visits: budget.visits - measured.left.visits,
+        steps: budget.steps - measured.left,
+        visits: budget.visits - measured.visits,
     })
 }
