@@ -1,5 +1,5 @@
 -- Sums of steps and visits.
-use Rattle.std.proofs.Common.{arith, ◌≡◌, ◌+◌, inl, inr, ℕ, ap, add-zero, zero-add}
+use Rattle.std.proofs.Common.{arith, ◌≡◌, ◌+◌, inl, inr, ap, add-zero, zero-add}
 use Rattle.proto_wire.specs.declared.refusal.Refusal.{Refusal}
 use Rattle.cost_bound.specs.Budgets.{IsTooSmallFor, nothing, sum_of}
 use Rattle.cost_bound.specs.declared.budget.Budget.{Budget}

@@ -1,13 +1,11 @@
 -- What a call costs: its operands, and one and a part besides.
 use Rattle.std.proofs.Common.{◌≡◌, ℕ, ◌+◌, ◌-◌, ◌≤◌, List, [], ◌∷◌, length, refl, arith}
 use Rattle.cel_overload.specs.declared.overload.Overload.{Overload}
-use Rattle.cel_ops.specs.declared.conversion.Conversion.{Conversion}
-use Rattle.cel_ops.specs.declared.operation.Operation.{Operation}
 use Rattle.cel_ops.specs.declared.operation.Operation.TheVariants as operations
 use Rattle.cel_overload.specs.declared.overload.Overload.TheVariants as overloads
 use Rattle.cel_value.specs.Types.{ValueType}
-use Rattle.cel_costs.specs.Sizes.{Size, Flat}
-use Rattle.cel_costs.specs.Costs.{call_cost, call_size, charge_at, total}
+use Rattle.cel_costs.specs.Sizes.{Size}
+use Rattle.cel_costs.specs.Costs.{call_cost, charge_at, total}
 use Rattle.cost_bound.specs.private.Measuring.{call_part}
 pub use Rattle.cel_costs.proofs.Charged.{charge_some}
 

@@ -9,3 +9,4 @@ pub mod Places
 pub mod Steps
 pub mod Counting
 pub mod Pairs
+pub mod Choices

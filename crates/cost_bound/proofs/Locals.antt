@@ -1,19 +1,13 @@
 -- Locals by the number of those outside.
-use Rattle.std.proofs.Common.{◌≡◌, nat_eq, true, false, ℕ, zero, suc, ◌+◌, ◌<◌, ◌≤◌, List, [], ◌∷◌, ◌++◌, length, get_or, refl, ap, ◌∙◌, Bor, arith}
+use Rattle.std.proofs.Common.{◌≡◌, nat_eq, true, false, ℕ, zero, suc, ◌+◌, ◌-◌, ◌<◌, ◌≤◌, List, [], ◌∷◌, ◌++◌, length, get_or, refl, ap, ◌∙◌, Bor, arith}
 use Rattle.std.specs.Prelude.{Some, None}
 use Rattle.std.proofs.lemmas.Bool.Decides.{nat_tests}
 use Rattle.cel_types.specs.TypedMeaning.{local_at}
 use Rattle.cel_costs.specs.Costs.{known}
 use Rattle.cel_costs.specs.Sizes.{Size, Flat}
-use Rattle.cost_bound.specs.private.ScopeView.{scope_view, sizes_onto}
+use Rattle.cost_bound.specs.private.ScopeView.{scope_of, scope_view, sizes_onto}
 use Rattle.cost_bound.specs.private.SizeView.{size_view}
 use Rattle.cost_bound.specs.declared.size.ValueSize.{ValueSize}
-
--- one more local is the innermost one
-pub sizes_more : (outer : List Size) (xs : List (Bor ValueSize)) (x : Bor ValueSize)
-    → sizes_onto outer (xs ++ x ∷ []) ≡ size_view x.now ∷ sizes_onto outer xs
-sizes_more outer [] x = refl
-sizes_more outer (y ∷ ys) x = sizes_more (size_view y.now ∷ outer) ys x
 
 other : (n m : ℕ) → n < m → nat_eq m n ≡ false
 other n m h = let differ : m ≡ n → ⊥ = λ same. omega (arith, same) in grind (arith, nat_tests)
@@ -49,20 +43,35 @@ found_there (suc i) outer (x ∷ xs) d h =
     let at : length outer + suc i ≡ suc (length outer) + i = omega arith in
     rw at (found_there i (size_view x.now ∷ outer) xs d (omega arith))
 
-abbrev seen : Bor ValueSize → Size
-seen x = size_view x.now
+-- the locals of two lists are those of both in one
+pub sizes_both : (outer : List Size) (xs ys : List (Bor ValueSize))
+    → sizes_onto outer (xs ++ ys) ≡ sizes_onto (sizes_onto outer xs) ys
+sizes_both outer [] ys = refl
+sizes_both outer (x ∷ xs) ys = sizes_both (size_view x.now ∷ outer) xs ys
 
-pub local_there : (w : ℕ) (xs : List (Bor ValueSize)) (x : Bor ValueSize) → x ≡ get_or xs w x → w < length xs
-    → size_view x.now ≡ known (local_at w (scope_view xs))
-local_there w xs x is h =
+pub local_outside : (w : ℕ) (os xs : List (Bor ValueSize)) (d : Bor ValueSize) → w < length os
+    → size_view (get_or os w d).now ≡ known (local_at w (scope_of os xs))
+local_outside w os xs d h =
+    let counted = size_count [] os in
     let whole : w ≡ length {A = Size} [] + w = omega arith in
-    let there : local_at w (scope_view xs) ≡ Some (size_view (get_or xs w x).now) =
-    ap (λ k. local_at k (scope_view xs)) whole ∙ found_there w [] xs x h in
-    let same : size_view x.now ≡ size_view (get_or xs w x).now = ap seen is in
-    same ∙ rw there refl
+    let there : local_at w (scope_of os xs) ≡ Some (size_view (get_or os w d).now) =
+    still_there w (scope_view os) xs (omega arith)
+    ∙ (ap (λ k. local_at k (scope_view os)) whole ∙ found_there w [] os d h) in
+    rw there refl
 
-pub local_beyond : (w : ℕ) (xs : List (Bor ValueSize)) → length xs ≤ w → Flat ≡ known (local_at w (scope_view xs))
-local_beyond w xs h =
-    let counted = size_count [] xs in
-    let none : local_at w (scope_view xs) ≡ None = none_there w (scope_view xs) (omega arith) in
+pub local_inside : (w : ℕ) (os xs : List (Bor ValueSize)) (d : Bor ValueSize) → length os ≤ w
+    → w - length os < length xs → size_view (get_or xs (w - length os) d).now ≡ known (local_at w (scope_of os xs))
+local_inside w os xs d h fits =
+    let counted = size_count [] os in
+    let whole : w ≡ length (scope_view os) + (w - length os) = omega arith in
+    let there : local_at w (scope_of os xs) ≡ Some (size_view (get_or xs (w - length os) d).now) =
+    ap (λ k. local_at k (scope_of os xs)) whole ∙ found_there (w - length os) (scope_view os) xs d fits in
+    rw there refl
+
+pub local_beyond : (w : ℕ) (os xs : List (Bor ValueSize)) → length os ≤ w → length xs ≤ w - length os
+    → Flat ≡ known (local_at w (scope_of os xs))
+local_beyond w os xs h fits =
+    let outside = size_count [] os in
+    let counted = size_count (scope_view os) xs in
+    let none : local_at w (scope_of os xs) ≡ None = none_there w (scope_of os xs) (omega arith) in
     rw none refl

@@ -40,7 +40,7 @@ pair_seen (a ∷ b ∷ d ∷ es) y z l ss two isy isz = absurd (omega arith)
 
 pub pair_found : (es : List TypedExpr) (o : Overload) (y z : TypedExpr) (l : LimitsValue) (ss : List Size)
     (a b size : Size) (left one other part rest : ℕ) → length es ≡ 2
-    → y ≡ get_or es 0 y → z ≡ get_or es 1 z → left < 2 ^ 64
+    → y ≡ get_or es 0 y → z ≡ get_or es 1 z → other < 2 ^ 64
     → (a ≡ size_of (expr_view y) l ss) × (left ≡ cost_of (expr_view y) l ss + one)
     → (b ≡ size_of (expr_view z) l ss) × (one ≡ cost_of (expr_view z) l ss + other)
     → part ≡ capped (call_part o (kinds (exprs_view es)) (a ∷ b ∷ [])) → other ≡ 1 + part + rest
@@ -55,8 +55,7 @@ pair_found es o y z l ss a b size left one other part rest two isy isz fits firs
     let same : a ∷ b ∷ [] ≡ sizes = rw (first.0, second.0) pair.0 in
     let charge' : part ≡ capped (call_part o types sizes) = rw same at charge in
     let sized' : (ts : List ValueType) → charge_at o ts sizes < 2 ^ 64 → size ≡ call_size o sizes = rw same at sized in
-    let small' : other < 2 ^ 64 = omega (arith, first.1, second.1) in
-    let rest' : other ≡ 1 + call_part o types sizes + rest = paid _ _ _ _ small' charge' h in
+    let rest' : other ≡ 1 + call_part o types sizes + rest = paid _ _ _ _ fits charge' h in
     let covered = part_covers o types sizes in
-    let small : charge_at o types sizes < 2 ^ 64 = omega (arith, covered, rest', small') in
+    let small : charge_at o types sizes < 2 ^ 64 = omega (arith, covered, rest', fits) in
     (sized' types small, omega (arith, first.1, second.1, rest', pair.1))

@@ -1,9 +1,8 @@
 -- What each step of measuring adds up to.
-use Rattle.std.proofs.Common.{◌≡◌, ℕ, suc, ◌+◌, ◌-◌, ◌<◌, ◌≤◌, List, [], ◌∷◌, length, drop, get_or, refl, ap, ◌∙◌, arith, inl, inr}
-use Rattle.std.proofs.lemmas.List.{drop_more}
+use Rattle.std.proofs.Common.{◌≡◌, ℕ, suc, ◌+◌, ◌<◌, List, [], ◌∷◌, length, refl, ap, ◌∙◌, inl, inr}
 use Rattle.attributes.specs.Limits.{LimitsValue}
-use Rattle.cel_types.specs.Elaborated.{TypedTree, typed_constant, typed_local, typed_attribute, typed_field, typed_has, typed_call, typed_list, typed_map, typed_loop, TypedTrees, no_typed, typed, kind}
-use Rattle.cel_types.specs.View.{TypedParts, expr_view, loop_of}
+use Rattle.cel_types.specs.Elaborated.{TypedTrees, no_typed, typed}
+use Rattle.cel_types.specs.View.{TypedParts, loop_of}
 use Rattle.cel_types.specs.private.ExprViews.{exprs_view}
 use Rattle.cel_types.specs.declared.typed.TypedExpr.{TypedExpr}
 use Rattle.cel_value.specs.Types.{ValueType}
@@ -11,11 +10,11 @@ use Rattle.std.specs.Prelude.{Result, IfErr, IsErrAnd}
 use Rattle.proto_wire.proofs.Exits.{exit_memory_or, last_memory_or}
 use Rattle.proto_wire.specs.Refusal.{MemoryOr}
 use Rattle.proto_wire.specs.declared.refusal.Refusal.{Refusal}
-use Rattle.cel_costs.specs.Costs.{cost_of, costs_of, field_cost, grown, size_of, sizes_of, total, turns_cost, variable_sizes}
+use Rattle.cel_costs.specs.Costs.{cost_of, costs_of, grown, size_of, sizes_of, turns_cost, variable_sizes}
 use Rattle.cel_costs.specs.Sizes.{Size, most_of}
-use Rattle.cel_costs.specs.Visits.{turns_visits, visits_of, visits_of_each, weight}
-use Rattle.cost_bound.specs.private.Measuring.{CostsMore, Exceeds, VisitsMore, loop_visits, next_size, turn_cost, turn_visits, visits_inside}
-use Rattle.cost_bound.proofs.Capped.{one_less, paid}
+use Rattle.cel_costs.specs.Visits.{turns_visits, visits_of}
+use Rattle.cost_bound.specs.declared.budget.Budget.{Budget}
+use Rattle.cost_bound.specs.private.Measuring.{CostsMore, Exceeds, loop_visits, next_size, turn_cost, turn_visits}
 
 -- there are as many costs as sizes
 pub as_many : (es : TypedTrees) (l : LimitsValue) (ss : List Size)
@@ -29,34 +28,33 @@ pub cost_count : (es : List TypedExpr) (l : LimitsValue) (ss : List Size)
 cost_count [] l ss = refl
 cost_count (e ∷ es) l ss = ap suc (cost_count es l ss)
 
--- what exceeds a part's budget or visits makes the whole exceed its own
-exceeds : (a rest b left u others v visits : ℕ) (e : Refusal) → (rest < a → left < b)
-    → (others < u → visits < v) → Exceeds a rest u others e → Exceeds b left v visits e
-exceeds a rest b left u others v visits e more seen (inl cost) = inl (cost.0, more cost.1)
-exceeds a rest b left u others v visits e more seen (inr count) = inr (count.0, seen count.1)
+-- what exceeds what is left for a part makes the whole exceed its own
+exceeds : (a u : ℕ) (rest : Budget) (b v : ℕ) (left : Budget) (e : Refusal) → (rest.steps < a → left.steps < b)
+    → (rest.visits < u → left.visits < v) → Exceeds a u rest e → Exceeds b v left e
+exceeds a u rest b v left e more seen (inl cost) = inl (cost.0, more cost.1)
+exceeds a u rest b v left e more seen (inr count) = inr (count.0, seen count.1)
 
 -- at a `?` on a part
-pub exit_more : {T : Type 0} (a rest b left u others v visits : ℕ) (r : Result T Refusal) (e : Refusal)
-    → IsErrAnd r (λ y. y ≡ e) → MemoryOr (Exceeds a rest u others) e → (rest < a → left < b)
-    → (others < u → visits < v) → IfErr r (MemoryOr (Exceeds b left v visits))
-exit_more a rest b left u others v visits r e told fault more seen =
-    exit_memory_or (Exceeds a rest u others) (Exceeds b left v visits) r e told fault
-    (λ d f. exceeds a rest b left u others v visits d more seen f)
+pub exit_more : {T : Type 0} (a u : ℕ) (rest : Budget) (b v : ℕ) (left : Budget) (r : Result T Refusal) (e : Refusal)
+    → IsErrAnd r (λ y. y ≡ e) → MemoryOr (Exceeds a u rest) e → (rest.steps < a → left.steps < b)
+    → (rest.visits < u → left.visits < v) → IfErr r (MemoryOr (Exceeds b v left))
+exit_more a u rest b v left r e told fault more seen =
+    exit_memory_or (Exceeds a u rest) (Exceeds b v left) r e told fault
+    (λ d f. exceeds a u rest b v left d more seen f)
 
 -- at a charge
-pub exit_charge : {T : Type 0} (a rest b left v visits : ℕ) (r : Result T Refusal) (e : Refusal)
-    → IsErrAnd r (λ y. y ≡ e) → CostsMore a rest e → (rest < a → left < b)
-    → IfErr r (MemoryOr (Exceeds b left v visits))
-exit_charge a rest b left v visits r e told fault more =
-    exit_more a rest b left 0 0 v visits r e told (inr (inl fault)) more (λ none. absurd (omega arith))
+pub exit_charge : {T : Type 0} (a rest b v : ℕ) (left : Budget) (r : Result T Refusal) (e : Refusal)
+    → IsErrAnd r (λ y. y ≡ e) → CostsMore a rest e → (rest < a → left.steps < b)
+    → IfErr r (MemoryOr (Exceeds b v left))
+exit_charge a rest b v left r e told fault more =
+    exit_memory_or (CostsMore a rest) (Exceeds b v left) r e told (inr fault) (λ d f. inl (f.0, more f.1))
 
 -- at a last call
-pub last_more : {T : Type 0} (a rest b left u others v visits : ℕ) (r : Result T Refusal) → (rest < a → left < b)
-    → (others < u → visits < v) → IfErr r (MemoryOr (Exceeds a rest u others))
-    → IfErr r (MemoryOr (Exceeds b left v visits))
-last_more a rest b left u others v visits r more seen h =
-    last_memory_or (Exceeds a rest u others) (Exceeds b left v visits) r h
-    (λ e f. exceeds a rest b left u others v visits e more seen f)
+pub last_more : {T : Type 0} (a u : ℕ) (rest : Budget) (b v : ℕ) (left : Budget) (r : Result T Refusal)
+    → (rest.steps < a → left.steps < b) → (rest.visits < u → left.visits < v)
+    → IfErr r (MemoryOr (Exceeds a u rest)) → IfErr r (MemoryOr (Exceeds b v left))
+last_more a u rest b v left r more seen h =
+    last_memory_or (Exceeds a u rest) (Exceeds b v left) r h (λ e f. exceeds a u rest b v left e more seen f)
 
 -- the cost of a comprehension, by the sizes of its parts
 pub loop_costs : (p : TypedParts) (t : ValueType) (l : LimitsValue) (ss E : List Size) (R I G : Size) (n : ℕ)

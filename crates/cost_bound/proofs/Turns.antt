@@ -1,13 +1,10 @@
 -- Turns, one after the other: once what is gathered grows no more, the others cost the same each.
-use Rattle.std.proofs.Common.{◌≡◌, nat_eq, Bool, true, false, ℕ, suc, zero, ◌+◌, ◌*◌, ◌-◌, ◌<◌, ◌≤◌, ◌/◌, ◌%◌, List, [], ◌∷◌, length, refl, sym, ap, ◌∙◌, arith, suc-mul, zero-mul}
+use Rattle.std.proofs.Common.{◌≡◌, nat_eq, Bool, true, false, ℕ, suc, zero, ◌+◌, ◌*◌, ◌-◌, ◌<◌, ◌/◌, ◌%◌, List, [], ◌∷◌, length, refl, sym, ap, ◌∙◌, arith, suc-mul, zero-mul}
 use Rattle.std.specs.Prelude.{if◌then◌else◌}
 use Rattle.std.proofs.lemmas.Bool.Decides.{nat_tests}
 use Rattle.cel_costs.specs.Sizes.{Size, Flat, Text, Many, Table, join}
 use Rattle.cel_costs.specs.Visits.{is_same, turns_visits}
-use Rattle.cel_ops.specs.declared.operation.Operation.TheVariants as operations
-use Rattle.cel_overload.specs.declared.overload.Overload.TheVariants as overloads
-use Rattle.cel_value.specs.Types.{ValueType}
-use Rattle.cel_costs.specs.Costs.{charge_at, grown, turns_cost, keys_of, values_of}
+use Rattle.cel_costs.specs.Costs.{grown, turns_cost, keys_of, values_of}
 
 less : (n : ℕ) → n ≡ suc n - 1
 less n = omega arith

@@ -16,7 +16,7 @@ ghost use Rattle.cost_bound.specs.Budgets.{Covers, IsTooSmallFor, needs_of};
 
 use crate::budget::Budget;
 use crate::measure::measure;
-use crate::measuring::Measuring;
+use crate::measuring::{Around, Measuring};
 use attributes::Limits;
 use cel_types::Typed;
 use proto_wire::Refusal;
@@ -47,12 +47,15 @@ pub fn bound(
     ensures fault { IfErr result (MemoryOr (IsTooSmallFor budget (needs_of (typed_view typed.now) limits.now))) }
 {
     let at = Measuring {
-        limits,
-        locals: &[],
+        around: Around {
+            limits,
+            locals: &[],
+        },
+        inner: &[],
     };
-    let measured = measure(alloc, &typed.root, at, budget.steps, budget.visits)?;
+    let measured = measure(alloc, &typed.root, at, budget)?;
     Ok(Budget {
-        steps: budget.steps - measured.left,
-        visits: budget.visits - measured.visits,
+        steps: budget.steps - measured.left.steps,
+        visits: budget.visits - measured.left.visits,
     })
 }

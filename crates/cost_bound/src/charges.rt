@@ -1,6 +1,6 @@
 //! The charges of instructions, and their payment from a budget.
 
-ghost use Rattle.std.specs.Prelude.{◌≡◌, ◌≢◌, ◌+◌, ◌-◌, ◌*◌, ◌↔◌, List, [], ◌∷◌, IfErr, IfOk, IsTrue, length};
+ghost use Rattle.std.specs.Prelude.{◌≡◌, ◌≢◌, ◌<◌, ◌+◌, ◌-◌, ◌*◌, ◌^◌, ◌↔◌, List, [], ◌∷◌, IfErr, IfOk, IsTrue, length};
 ghost use Rattle.cel_ops.specs.declared.operation.Operation.TheVariants as operations;
 ghost use Rattle.cel_overload.specs.declared.overload.Overload.TheVariants as overloads;
 ghost use Rattle.cel_types.specs.Elaborated.{kind, kinds};
@@ -13,6 +13,7 @@ ghost use Rattle.cost_bound.specs.private.Measuring.{CostsMore, call_part};
 ghost use Rattle.cost_bound.specs.private.Numbers.{capped};
 ghost use Rattle.cost_bound.specs.private.SizeView.{size_view, sizes_view};
 
+use crate::budget::Budget;
 use crate::size::{ValueSize, product, sum};
 use cel_ops::{Conversion, Operation};
 use cel_overload::Overload;
@@ -21,27 +22,34 @@ use cel_value::{CelType, text_length};
 use proto_wire::Refusal;
 use std::sync::ArcStr;
 
-/// The budget less 1 and less a part; `TooCostly` if it is too small. A capped part is 2^64 - 1: no
+/// The budget less 1 step and less a part; `TooCostly` if it has too few steps. A capped part is 2^64 - 1: no
 /// budget pays for it and for the 1.
-pub(crate) fn pay(left: u64, part: u64) -> Result<u64, Refusal>
-    ensures found { IfOk result (λ rest. left ≡ 1 + part + rest) }
-    ensures fault { IfErr result (CostsMore (1 + part) left) }
+pub(crate) fn pay(left: Budget, part: u64) -> Result<Budget, Refusal>
+    ensures fits { left.steps < 2 ^ 64 }
+    ensures found { IfOk result (λ rest. (left.steps ≡ 1 + part + rest.steps) × (left.visits ≡ rest.visits)) }
+    ensures fault { IfErr result (CostsMore (1 + part) left.steps) }
 {
-    if part < left {
-        return Ok(left - part - 1);
+    if part < left.steps {
+        return Ok(Budget {
+            steps: left.steps - part - 1,
+            visits: left.visits,
+        });
     }
     Err(Refusal::TooCostly)
 }
 
-/// The budget less so many turns of this cost; `TooCostly` if it is too small.
-pub(crate) fn pay_turns(left: u64, turns: u64, cost: u64) -> Result<u64, Refusal>
-    ensures found { IfOk result (λ rest. left ≡ turns * cost + rest) }
-    ensures fault { IfErr result (CostsMore (turns * cost) left) }
+/// The budget less so many turns of this cost; `TooCostly` if it has too few steps.
+pub(crate) fn pay_turns(left: Budget, turns: u64, cost: u64) -> Result<Budget, Refusal>
+    ensures found { IfOk result (λ rest. (left.steps ≡ turns * cost + rest.steps) × (left.visits ≡ rest.visits)) }
+    ensures fault { IfErr result (CostsMore (turns * cost) left.steps) }
 {
     match turns.checked_mul(cost) {
         Some(all) => {
-            if all <= left {
-                return Ok(left - all);
+            if all <= left.steps {
+                return Ok(Budget {
+                    steps: left.steps - all,
+                    visits: left.visits,
+                });
             }
             Err(Refusal::TooCostly)
         }

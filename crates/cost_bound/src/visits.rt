@@ -5,11 +5,25 @@ ghost use Rattle.cel_costs.specs.Visits.{weight};
 ghost use Rattle.cel_value.specs.Types.{type_view};
 ghost use Rattle.cost_bound.specs.private.Measuring.{VisitsMore};
 
+use crate::budget::Budget;
 use cel_value::CelType;
 use proto_wire::Refusal;
 
-/// The visits that are left after a node of this type; `TooLarge` if there are too few.
-pub(crate) fn visit(visits: u64, cel_type: &CelType) -> Result<u64, Refusal>
+/// The budget less the visit of a node of this type; `TooLarge` if it has too few visits.
+pub(crate) fn visit(left: Budget, cel_type: &CelType) -> Result<Budget, Refusal>
+    ensures found { IfOk result (λ rest. (left.steps ≡ rest.steps)
+        × (left.visits ≡ weight (type_view cel_type.now) + rest.visits)) }
+    ensures fault { IfErr result (VisitsMore (weight (type_view cel_type.now)) left.visits) }
+{
+    let visits = less_weight(left.visits, cel_type)?;
+    Ok(Budget {
+        steps: left.steps,
+        visits,
+    })
+}
+
+// The visits that are left after a node of this type. Most types have one level.
+fn less_weight(visits: u64, cel_type: &CelType) -> Result<u64, Refusal>
     ensures found { IfOk result (λ rest. visits ≡ weight (type_view cel_type.now) + rest) }
     ensures fault { IfErr result (VisitsMore (weight (type_view cel_type.now)) visits) }
 {
@@ -19,8 +33,24 @@ pub(crate) fn visit(visits: u64, cel_type: &CelType) -> Result<u64, Refusal>
         CelType::Uint => less(visits, 1),
         CelType::Text => less(visits, 1),
         CelType::Bytes => less(visits, 1),
-        CelType::List(items) => visit(less(visits, 1)?, items),
-        CelType::Map(_, values) => visit(less(visits, 2)?, values),
+        CelType::List(_) => less_levels(visits, cel_type),
+        CelType::Map(_, _) => less_levels(visits, cel_type),
+    }
+}
+
+// The same, level by level.
+fn less_levels(visits: u64, cel_type: &CelType) -> Result<u64, Refusal>
+    ensures found { IfOk result (λ rest. visits ≡ weight (type_view cel_type.now) + rest) }
+    ensures fault { IfErr result (VisitsMore (weight (type_view cel_type.now)) visits) }
+{
+    match cel_type {
+        CelType::Bool => less(visits, 1),
+        CelType::Int => less(visits, 1),
+        CelType::Uint => less(visits, 1),
+        CelType::Text => less(visits, 1),
+        CelType::Bytes => less(visits, 1),
+        CelType::List(items) => less_levels(less(visits, 1)?, items),
+        CelType::Map(_, values) => less_levels(less(visits, 2)?, values),
     }
 }
 

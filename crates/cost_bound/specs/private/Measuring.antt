@@ -13,8 +13,9 @@ use Rattle.cel_value.specs.Types.{ValueType}
 use Rattle.cel_costs.specs.Sizes.{Size, most_of}
 use Rattle.cel_costs.specs.Costs.{charge_at, cost_of, costs_of, grown, size_of, sizes_of, variable_sizes}
 use Rattle.cel_costs.specs.Visits.{turns_visits, visits_of, visits_of_each, weight}
-use Rattle.cost_bound.specs.private.ScopeView.{scope_view}
+use Rattle.cost_bound.specs.private.ScopeView.{scope_of, scope_view}
 use Rattle.cost_bound.specs.private.SizeView.{size_view, variables_view}
+use Rattle.cost_bound.specs.declared.budget.Budget.{Budget}
 use Rattle.cost_bound.specs.declared.measured.Measured.{Measured}
 use Rattle.cost_bound.specs.declared.measuring.Measuring.{Measuring}
 use Rattle.cost_bound.specs.declared.measuring.Turns.{Turns}
@@ -28,8 +29,8 @@ abbrev pub VisitsMore : (count visits : ℕ) → Refusal → Type 0
 VisitsMore count visits e = (e ≡ TooLarge) × (visits < count)
 
 -- the refusal of either
-abbrev pub Exceeds : (cost left count visits : ℕ) → Refusal → Type 0
-Exceeds cost left count visits e = CostsMore cost left e ⊎ VisitsMore count visits e
+abbrev pub Exceeds : (cost count : ℕ) → Budget → Refusal → Type 0
+Exceeds cost count left e = CostsMore cost left.steps e ⊎ VisitsMore count left.visits e
 
 -- the charge of a call without its operands, less 1: two jumps for `&&` and `||`, one instruction
 -- otherwise. Not for a conditional of three operands
@@ -82,33 +83,45 @@ visits_inside (typed_loop t vars range init condition step result) l sizes =
     }) l sizes
 
 -- what is found of an expression of this size, this cost and these visits
-abbrev pub Finds : Size → (cost left count visits : ℕ) → Measured → Type 0
-Finds size cost left count visits m =
-    (size_view m.size ≡ size) × (left ≡ cost + m.left) × (visits ≡ count + m.visits)
+abbrev pub Finds : Size → (cost count : ℕ) → Budget → Measured → Type 0
+Finds size cost count left m =
+    (size_view m.size ≡ size) × (left.steps ≡ cost + m.left.steps) × (left.visits ≡ count + m.left.visits)
+
+-- the sizes of the locals in scope
+abbrev pub scope_in : Measuring → List Size
+scope_in m = scope_of m.around.locals.now m.inner.now
 
 -- the size of an expression, by the limits and the locals in scope
 abbrev pub size_in : Measuring → TypedTree → Size
-size_in m e = size_of e m.limits.now (scope_view m.locals.now)
+size_in m e = size_of e m.around.limits.now (scope_in m)
 
 -- its cost, by the same
 abbrev pub cost_in : Measuring → TypedTree → ℕ
-cost_in m e = cost_of e m.limits.now (scope_view m.locals.now)
+cost_in m e = cost_of e m.around.limits.now (scope_in m)
 
 -- its visits, by the same
 abbrev pub visits_in : Measuring → TypedTree → ℕ
-visits_in m e = visits_of e m.limits.now (scope_view m.locals.now)
+visits_in m e = visits_of e m.around.limits.now (scope_in m)
+
+-- the visits of its parts
+abbrev pub visits_inside_in : Measuring → TypedTree → ℕ
+visits_inside_in m e = visits_inside e m.around.limits.now (scope_in m)
+
+-- the visits of a loop's parts
+abbrev pub loop_visits_in : Measuring → TypedParts → ℕ
+loop_visits_in m p = loop_visits p m.around.limits.now (scope_in m)
 
 -- the sizes of expressions, in order
 abbrev pub sizes_in : Measuring → TypedTrees → List Size
-sizes_in m es = sizes_of es m.limits.now (scope_view m.locals.now)
+sizes_in m es = sizes_of es m.around.limits.now (scope_in m)
 
 -- their costs, in order
 abbrev pub costs_in : Measuring → TypedTrees → List ℕ
-costs_in m es = costs_of es m.limits.now (scope_view m.locals.now)
+costs_in m es = costs_of es m.around.limits.now (scope_in m)
 
 -- their visits together
 abbrev pub visits_in_each : Measuring → TypedTrees → ℕ
-visits_in_each m es = visits_of_each es m.limits.now (scope_view m.locals.now)
+visits_in_each m es = visits_of_each es m.around.limits.now (scope_in m)
 
 -- the size of a loop's step, by the accumulator's size before it
 abbrev pub next_in : TypedParts → Turns → Size → Size

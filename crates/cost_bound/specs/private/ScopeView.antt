@@ -13,3 +13,7 @@ sizes_onto outer (s ∷ ss) = sizes_onto (size_view s.now ∷ outer) ss
 -- the sizes of the locals that a list means, the innermost first
 abbrev pub scope_view : List (Bor ValueSize) → List Size
 scope_view ss = sizes_onto [] ss
+
+-- the same of locals in two lists, the outer ones first
+abbrev pub scope_of : (outer inner : List (Bor ValueSize)) → List Size
+scope_of outer inner = sizes_onto (scope_view outer) inner

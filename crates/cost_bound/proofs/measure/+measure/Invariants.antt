@@ -2,20 +2,19 @@ use Rattle.std.proofs.Common.{◌≡◌, ◌+◌, ◌++◌, drop}
 use Rattle.cel_types.specs.private.ExprViews.{exprs_view, parts_view}
 use Rattle.cel_costs.specs.Costs.{costs_of, grown, sizes_of, total, turns_cost}
 use Rattle.cel_costs.specs.Visits.{turns_visits, visits_of_each}
-use Rattle.cost_bound.specs.private.Measuring.{next_in, turn_in, turn_visits_in}
-use Rattle.cost_bound.specs.private.ScopeView.{scope_view}
+use Rattle.cost_bound.specs.private.Measuring.{next_in, scope_in, turn_in, turn_visits_in}
 use Rattle.cost_bound.specs.private.SizeView.{size_view, sizes_view}
 use Rattle.cost_bound.proofs.measure.+measure.Given as goal
 
 abbrev pub invariant-measure_each-loop-expr : goal.invariant-measure_each-loop-expr
 invariant-measure_each-loop-expr l =
     (sizes_view l.sizes.items
-    ++ sizes_of (exprs_view (drop l.expr-index l.exprs)) l.at.limits.now (scope_view l.at.locals.now)
-    ≡ sizes_of (exprs_view l.exprs) l.at.limits.now (scope_view l.at.locals.now))
-    × (l.left + total (costs_of (exprs_view (drop l.expr-index l.exprs)) l.at.limits.now (scope_view l.at.locals.now))
-    ≡ total (costs_of (exprs_view l.exprs) l.at.limits.now (scope_view l.at.locals.now)) + l.rest)
-    × (l.visits + visits_of_each (exprs_view (drop l.expr-index l.exprs)) l.at.limits.now (scope_view l.at.locals.now)
-    ≡ visits_of_each (exprs_view l.exprs) l.at.limits.now (scope_view l.at.locals.now) + l.others)
+    ++ sizes_of (exprs_view (drop l.expr-index l.exprs)) l.at.around.limits.now (scope_in l.at)
+    ≡ sizes_of (exprs_view l.exprs) l.at.around.limits.now (scope_in l.at))
+    × (l.initial.rest.steps + total (costs_of (exprs_view (drop l.expr-index l.exprs)) l.at.around.limits.now (scope_in l.at))
+    ≡ total (costs_of (exprs_view l.exprs) l.at.around.limits.now (scope_in l.at)) + l.rest.steps)
+    × (l.initial.rest.visits + visits_of_each (exprs_view (drop l.expr-index l.exprs)) l.at.around.limits.now (scope_in l.at)
+    ≡ visits_of_each (exprs_view l.exprs) l.at.around.limits.now (scope_in l.at) + l.rest.visits)
 
 abbrev pub invariant-measure_turns-loop-others : goal.invariant-measure_turns-loop-others
 invariant-measure_turns-loop-others l =
@@ -23,10 +22,10 @@ invariant-measure_turns-loop-others l =
     let turn = turn_in (parts_view l.parts) l.turns in
     let look = turn_visits_in (parts_view l.parts) l.turns in
     (grown next l.others (size_view l.accumulator) ≡ grown next l.initial.others (size_view l.initial.accumulator))
-    × (l.left + turns_cost next turn l.others (size_view l.accumulator)
-    ≡ turns_cost next turn l.initial.others (size_view l.initial.accumulator) + l.rest)
-    × (l.visits + turns_visits next look l.others (size_view l.accumulator)
-    ≡ turns_visits next look l.initial.others (size_view l.initial.accumulator) + l.seen)
+    × (l.initial.rest.steps + turns_cost next turn l.others (size_view l.accumulator)
+    ≡ turns_cost next turn l.initial.others (size_view l.initial.accumulator) + l.rest.steps)
+    × (l.initial.rest.visits + turns_visits next look l.others (size_view l.accumulator)
+    ≡ turns_visits next look l.initial.others (size_view l.initial.accumulator) + l.rest.visits)
 
 abbrev pub decreases-measure_turns-loop-others : goal.decreases-measure_turns-loop-others
 decreases-measure_turns-loop-others l = l.others
