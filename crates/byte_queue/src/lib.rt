@@ -3,4 +3,4 @@
 
 mod queue;
 
-pub use queue::ByteQueue;
+pub use queue::{ByteQueue, append};

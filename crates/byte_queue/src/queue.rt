@@ -67,7 +67,7 @@ impl ByteQueue {
         ensures kept { OnOk result (self.new.taken ≤ length self.old.waiting) }
         ensures fault { OnErr result (self.new ≡ self.old) }
     {
-        append(&mut self.bytes, &mut self.taken, bytes, end)
+        append_both(&mut self.bytes, &mut self.taken, bytes, end)
     }
 
     /// Takes the first of the bytes that wait. It takes no memory.
@@ -91,9 +91,25 @@ impl ByteQueue {
     }
 }
 
-/// Puts bytes, and these after them, to those from a place on. Once most of the bytes before the place could be dropped,
-/// they are.
-fn append(bytes: &mut Vec<u8>, at: &mut usize, more: &[u8], end: &[u8]) -> Result<(), AllocError>
+/// Puts bytes after those from the place `at` on. If most bytes are before the place, drops these: then the place is 0.
+/// After an error all is as before the call.
+pub fn append(bytes: &mut Vec<u8>, at: &mut usize, more: &[u8]) -> Result<(), AllocError>
+    requires { at.old ≤ vec_len bytes.old }
+    ensures within { at.new ≤ vec_len bytes.new }
+    ensures found { OnOk result (drop at.new bytes.new.items ≡ drop at.old bytes.old.items ++ more.now) }
+    ensures kept { OnOk result (at.new ≤ length (drop at.old bytes.old.items)) }
+    ensures fault { OnErr result ((at.new ≡ at.old) × (bytes.new.items ≡ bytes.old.items)) }
+{
+    append_both(bytes, at, more, &[])
+}
+
+// The same with two parts, these after those.
+fn append_both(
+    bytes: &mut Vec<u8>,
+    at: &mut usize,
+    more: &[u8],
+    end: &[u8],
+) -> Result<(), AllocError>
     requires { at.old ≤ vec_len bytes.old }
     ensures within { at.new ≤ vec_len bytes.new }
     ensures found { OnOk result (drop at.new bytes.new.items ≡ drop at.old bytes.old.items ++ more.now ++ end.now) }
@@ -104,7 +120,10 @@ fn append(bytes: &mut Vec<u8>, at: &mut usize, more: &[u8], end: &[u8]) -> Resul
         return extend(bytes, more, end);
     }
     let rest = &bytes[*at..];
-    let mut both = Vec::with_capacity(*bytes.allocator(), rest.len())?;
+    let mut both = Vec::with_capacity(
+        *bytes.allocator(),
+        rest.len().saturating_add(more.len() + end.len()),
+    )?;
     both.extend_from_slice(rest)?;
     extend(&mut both, more, end)?;
     *bytes = both;

@@ -16,6 +16,7 @@ use crate::read::HEAD_ROOM;
 use crate::scan::Scan;
 use crate::turn::{Turn, turn_of};
 use attributes::{Conn, Limits};
+use byte_queue::append;
 use std::alloc::{AllocError, Global};
 use std::marker::Model;
 use std::sync::Arc;
@@ -285,23 +286,4 @@ fn copy_shared(shared: &Option<Arc<Conn>>) -> Result<Option<Arc<Conn>>, AllocErr
         Some(conn) => Ok(Some(conn.clone()?)),
         None => Ok(None),
     }
-}
-
-// Appends bytes to those from a place on. Drops those before it if they are more than half.
-fn append(bytes: &mut Vec<u8>, at: &mut usize, more: &[u8]) -> Result<(), AllocError>
-    requires { at.old ≤ vec_len bytes.old }
-    ensures within { at.new ≤ vec_len bytes.new }
-    ensures found { OnOk result (drop at.new bytes.new.items ≡ drop at.old bytes.old.items ++ more.now) }
-    ensures fault { OnErr result ((at.new ≡ at.old) × (bytes.new.items ≡ bytes.old.items)) }
-{
-    if *at <= bytes.len() / 2 {
-        return bytes.extend_from_slice(more);
-    }
-    let rest = &bytes[*at..];
-    let mut both = Vec::with_capacity(*bytes.allocator(), rest.len().saturating_add(more.len()))?;
-    both.extend_from_slice(rest)?;
-    both.extend_from_slice(more)?;
-    *bytes = both;
-    *at = 0;
-    Ok(())
 }
