@@ -9,7 +9,7 @@ use Rattle.rbac_serve.specs.Turns.{Turn, called, answer_sent, request_sent, Turn
 
 -- ---- places of a list
 
-put_same : (xs : List (List ℕ)) (k : ℕ) (x : List ℕ) → k < length xs → waiting_at k (set xs k x) ≡ x
+pub put_same : (xs : List (List ℕ)) (k : ℕ) (x : List ℕ) → k < length xs → waiting_at k (set xs k x) ≡ x
 put_same [] k x in' = absurd (omega arith)
 put_same (y ∷ xs) zero x in' = refl
 put_same (y ∷ xs) (suc k) x in' = put_same xs k x (omega arith)
@@ -21,7 +21,7 @@ put_apart (y ∷ xs) zero (suc k) x other = refl
 put_apart (y ∷ xs) (suc j) zero x other = refl
 put_apart (y ∷ xs) (suc j) (suc k) x other = put_apart xs j k x (λ same. other (ap (λ (n : ℕ). suc n) same))
 
-put_other : (xs : List (List ℕ)) (j k : ℕ) (x : List ℕ) → (k == j) ≡ false → waiting_at k (set xs j x) ≡ waiting_at k xs
+pub put_other : (xs : List (List ℕ)) (j k : ℕ) (x : List ℕ) → (k == j) ≡ false → waiting_at k (set xs j x) ≡ waiting_at k xs
 put_other xs j k x other = put_apart xs j k x (λ same. true≢false (sym (eq-eqb k j same) ∙ other))
 
 -- ---- one connection
@@ -122,7 +122,7 @@ all_order k (turn ∷ turns) old new a s in' so_far (next, does, others) =
     all_order k turns next new (answered_then k a turn) (sent_then k s turn) (rw (turn_length turn old next does) in')
     (turn_order k a s turn old next in' so_far does) others
 
-none_waits : (n k : ℕ) → waiting_at k (nothing_waits n) ≡ []
+pub none_waits : (n k : ℕ) → waiting_at k (nothing_waits n) ≡ []
 none_waits zero k = refl
 none_waits (suc n) zero = refl
 none_waits (suc n) (suc k) = none_waits n k

@@ -20,7 +20,7 @@ use Rattle.rbac_serve.proofs.PlaceLemmas.{put_in}
 
 -- ---- what stays
 
-abbrev Stays : ProxyValue → ProxyValue → Type 0
+abbrev pub Stays : ProxyValue → ProxyValue → Type 0
 Stays old new = (new.client.config ≡ old.client.config) × (length new.conns ≡ length old.conns)
 
 same_stays : (old new : ProxyValue) → new ≡ old → Stays old new
@@ -71,7 +71,7 @@ step_stays (http_open k facts) old out new opens = opens_stays k old facts out n
 step_stays (http_bytes k bytes) old out new gives = http_stays (front_at old k) k old bytes out new gives
 step_stays (http_closed k) old out new (is, made) = put_stays old new k None made
 
-turn_stays : (turn : Turn) (old new : WorkerValue) → TurnDoes old turn new → Stays old.core new.core
+pub turn_stays : (turn : Turn) (old new : WorkerValue) → TurnDoes old turn new → Stays old.core new.core
 turn_stays (called (answered event out)) old new works = step_stays event old.core out new.core works.steps
 turn_stays (called (no_memory event)) old new same =
     same_stays old.core new.core (ap (λ (w : WorkerValue). w.core) same)
@@ -88,7 +88,7 @@ turns_more [] turn old now new same does = (new, rw same at does, refl)
 turns_more (first ∷ turns) turn old now new (next, does, others) last =
     (next, does, turns_more turns turn next now new others last)
 
-start_same : (n m : ℕ) (c d : ConfigValue) → n ≡ m → c ≡ d → new_worker n c ≡ new_worker m d
+pub start_same : (n m : ℕ) (c d : ConfigValue) → n ≡ m → c ≡ d → new_worker n c ≡ new_worker m d
 start_same n m c d places config = ap (λ (it : ℕ). new_worker it c) places ∙ ap (new_worker m) config
 
 more : (turn : Turn) (old new : WorkerValue) → TurnDoes old turn new → IsReached old → IsReached new

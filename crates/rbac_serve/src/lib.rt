@@ -14,6 +14,7 @@ mod places;
 mod results;
 mod server;
 mod service;
+mod serving;
 mod settings;
 mod update_stream;
 mod worker;

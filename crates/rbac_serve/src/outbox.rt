@@ -119,6 +119,16 @@ impl Outbox {
         }
     }
 
+    /// So many bytes were sent of those that wait, from the first on. It takes no memory.
+    pub fn drop_first(&mut self, count: usize)
+        requires { count ≤ length self.old }
+        ensures { self.new ≡ drop count self.old }
+    {
+        if count > 0 {
+            self.forget(count);
+        }
+    }
+
     /// The first bytes of those that wait were sent.
     fn forget(&mut self, count: usize) -> Sent
         requires { (0 < count) × (count ≤ length self.old) }

@@ -10,9 +10,6 @@ use crate::service::{Outcome, Service};
 use crate::settings::{Settings, has_passed, passed_since};
 use crate::stream::{CloseReason, Stream};
 
-/// How often a connection is read in one turn, so that no other waits for long.
-const READS: u8 = 2;
-
 /// What comes after a turn of a stream.
 #[derive(Clone, Copy, PartialEq, Eq, Debug)]
 pub(crate) enum Next {
@@ -67,7 +64,7 @@ impl Connection {
         }
     }
 
-    /// Writes what waits, and reads what came.
+    /// Writes what waits, and reads once what came, so that no other connection waits for long.
     pub(crate) fn turn<F: Drop, N: Network<F>, S: Service<F>, O: Observer<F, S>>(
         &mut self,
         board: &mut Board<F, N, S, O>,
@@ -76,11 +73,9 @@ impl Connection {
     ) -> Next
         ensures grows { Grows (S.turns board.old.parties.service) (S.turns board.new.parties.service) }
     {
-        for _ in 0..READS {
-            match self.step(board, k, settings) {
-                Next::Again => {}
-                next => return next,
-            }
+        match self.step(board, k, settings) {
+            Next::Again => {}
+            next => return next,
         }
         match self.flow.write(board, Stream::Place(k)) {
             Sent::Lost => Next::Over(CloseReason::Reset),
@@ -150,6 +145,9 @@ impl Connection {
 
     /// The service took an event of the connection.
     pub(crate) fn taken(&mut self, outcome: Outcome, now: u64) -> Next {
+        if outcome.is_foreign {
+            return Next::Over(CloseReason::Foreign);
+        }
         if self.phase == Phase::Open {
             self.flow.used = now;
             self.begun = match self.begun {

@@ -18,6 +18,8 @@ pub struct Outcome {
     pub refuses: bool,
     /// Whether each byte of the stream so far belongs to a message that was completed.
     pub rests: bool,
+    /// Whether the bytes are of another protocol. The stream is closed at once.
+    pub is_foreign: bool,
 }
 
 /// What is served. It takes each event, and its answers wait until they are sent.

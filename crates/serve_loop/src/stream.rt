@@ -28,6 +28,8 @@ pub enum CloseReason {
     Memory,
     /// The server ends.
     Drained,
+    /// Its bytes are of another protocol.
+    Foreign,
 }
 
 /// What happens to a server.

@@ -110,6 +110,9 @@ impl Updates {
 
     // The service took bytes of the stream.
     fn taken(&mut self, outcome: Outcome, now: u64, settings: &Settings) -> Next {
+        if outcome.is_foreign {
+            return Next::Over(CloseReason::Foreign);
+        }
         if outcome.completes {
             self.responded = true;
             self.is_due = true;

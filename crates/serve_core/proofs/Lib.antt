@@ -1,0 +1,4 @@
+mod Driving
+mod Telling
+mod Wire
+mod OtherProtocolLemmas

@@ -1,0 +1,4 @@
+pub mod Turns
+pub mod Headline
+pub mod Cores
+pub mod OtherProtocols
