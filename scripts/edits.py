@@ -145,14 +145,28 @@ def lines_around(path, old):
 
 
 def type_around(lines, start):
-    """The type and the trait, if there is one, of the `impl` that the function is in, or none."""
-    above = next((line for line in lines[start::-1] if line and not line.startswith((" ", "}", "//"))), "")
-    if not lines[start].startswith(" ") or not above.startswith("impl"):
+    """The type and the trait, if there is one, of the `impl` that the function is in, or none. A trait is named with the types that it
+    is of, as `ServiceConn`, but without the parameters of the `impl`."""
+    at = next((at for at in range(start, -1, -1) if lines[at] and not lines[at].startswith((" ", "}", ">", "//"))), 0)
+    if not lines[start].startswith(" ") or not lines[at].startswith("impl"):
         return None
-    named = re.sub(r"<[^<>]*>", "", re.sub(r"<[^<>]*>", "", re.sub(r"<[^<>]*>", "", above.removesuffix("{"))))
-    trait, _, named = named.removeprefix("impl").partition(" where ")[0].rpartition(" for ")
-    found = re.fullmatch(r"\W*(?:\w+::)*(\w+)\W*", named)
-    return found and (found[1], trait.strip().rpartition("::")[2])
+    head = " ".join(lines[at:start]).partition(" {")[0].removeprefix("impl")
+    bound = head[: end_of_brackets(head)]
+    trait, _, named = head[len(bound) :].partition(" where ")[0].rpartition(" for ")
+    found = re.fullmatch(r"\W*(?:\w+::)*(\w+)\W*", named.partition("<")[0])
+    own = set(re.findall(r"(?:[<,]|const) ?([A-Z]\w*)", bound))
+    words = [it for it in re.findall(r"(?<!['\w])[A-Za-z_]\w*(?!\w|::)", trait) if it not in own]
+    return found and (found[1], "".join(words))
+
+
+def end_of_brackets(text):
+    """Where the angle brackets that the text begins with end, or 0."""
+    depth = 0
+    for at, it in enumerate(text):
+        depth += (it == "<") - (it == ">" and text[at - 1] != "-")
+        if depth == 0:
+            return at + (it == ">")
+    return 0
 
 
 def apart(edits, most):
