@@ -155,8 +155,9 @@ def type_around(lines, start):
     trait, _, named = head[len(bound) :].partition(" where ")[0].rpartition(" for ")
     found = re.fullmatch(r"\W*(?:\w+::)*(\w+)\W*", named.partition("<")[0])
     own = set(re.findall(r"(?:[<,]|const) ?([A-Z]\w*)", bound))
-    words = [it for it in re.findall(r"(?<!['\w])[A-Za-z_]\w*(?!\w|::)", trait) if it not in own]
-    return found and (found[1], "".join(words))
+    path, _, types = trait.partition("<")
+    words = [it for it in re.findall(r"(?<!['\w])[A-Za-z_]\w*", types) if it not in own]
+    return found and (found[1], path.strip().rpartition("::")[2] + "".join(it[0].upper() + it[1:] for it in words))
 
 
 def end_of_brackets(text):
