@@ -1,10 +1,14 @@
-"""Checks of files: what the tool finds in each filter and what the engine answers, as one report a filter."""
+"""Checks of files: what the tool finds in each filter and what the engine answers, as one report a filter.
+
+Several files are checked by several processes, so that reports hold no messages.
+"""
 import os
 import re
-from typing import Iterator, List, NamedTuple, Optional, Tuple
+from functools import partial
+from typing import List, NamedTuple, Optional, Tuple
 
 from . import engine, lint, profile, requirements
-from .bounds import GREATEST_BUDGET, too_costly
+from .bounds import GREATEST_BUDGET, Budget, too_costly
 from .conditions_typing import Bound, bounds_of
 from .decode import decode
 from .encode import Encoding
@@ -15,8 +19,9 @@ from .lint.silencing import Silencing
 from .messages import FILTER, Message, descriptor
 from .places import Mistake, Source
 from .placing import engine_place, named_node, node_at, origin, place_in_file
-from .reader import read
+from .reader import TOO_LARGE, read
 from .reading import Encoded, contents
+from .workers import in_processes
 
 # When a solver is asked for notes too; of more files than these it is not, unless it always is.
 AUTO, ALWAYS, NEVER = "auto", "always", "never"
@@ -33,8 +38,6 @@ class Report(NamedTuple):
     mistakes: List[Mistake]
     bounds: List[Bound]
     admission: Optional[engine.Admission] = None
-    message: Optional[Message] = None
-    encoding: Optional[Encoding] = None
     # Whether the file could not be read at all, or holds no policy and is only in a folder of some.
     is_unread: bool = False
     is_left_out: bool = False
@@ -50,10 +53,19 @@ class Report(NamedTuple):
         return f"{self.file}: {self.name}" if self.name else self.file
 
 
+class Held(NamedTuple):
+    """A report, and the filter that the engine is asked about: its bytes, its message, and the places of its parts."""
+
+    report: Report
+    data: Optional[bytes] = None
+    message: Optional[Message] = None
+    encoding: Optional[Encoding] = None
+
+
 class Wanted(NamedTuple):
     """What is wanted of a check: the budget, and whether a solver is asked too: always, never, or for a few files."""
 
-    budget: int
+    budget: Budget
     solver: str = AUTO
 
 
@@ -62,23 +74,16 @@ def check_files(names: List[str], wanted: Wanted, asked: Optional[engine.Engine]
     files = [(file, is_of_folder) for name in names for file, is_of_folder in _files(name)]
     is_few = wanted.solver == AUTO and len(files) <= MOST_SOLVED
     is_solved = (is_few or wanted.solver == ALWAYS) and not requirements.missing_solver()
-    found: List[Tuple[Report, Optional[bytes]]] = []
+    work = partial(_checked, wanted.budget, is_solved, asked)
+    return [report for reports in in_processes(work, files) for report in reports]
 
-    def read_all() -> Iterator[bytes]:
-        """The bytes of the filters: the engine is asked for the first while others are read."""
-        for file, is_of_folder in files:
-            reports = _reports_or_mistakes(file, wanted.budget, is_solved, is_of_folder)
-            found.extend(reports)
-            yield from (data for _, data in reports if data is not None)
 
-    if asked is None:
-        for _ in read_all():
-            pass
-        return [report for report, _ in found]
-    # a process that decides is not started while threads wait for the engine
-    filters = list(read_all()) if is_solved else read_all()
-    answers = iter(asked.admissions(filters, wanted.budget))
-    return [report if data is None else _answered(report, next(answers)) for report, data in found]
+def _checked(budget: Budget, is_solved: bool, asked: Optional[engine.Engine], file: Tuple[str, bool]) -> List[Report]:
+    """The reports on one file; raises NoEngine."""
+    held = _held_or_mistakes(*file, budget.steps, is_solved)
+    filters = [one.data for one in held if one.data is not None]
+    answers = iter(asked.admissions(filters, budget) if asked is not None else ())
+    return [one.report if asked is None or one.data is None else _answered(one, next(answers), budget.visits) for one in held]
 
 
 def _files(name: str) -> List[Tuple[str, bool]]:
@@ -86,37 +91,37 @@ def _files(name: str) -> List[Tuple[str, bool]]:
     return [(file, True) for file in files_in(name)] if os.path.isdir(name) else [(name, False)]
 
 
-def _reports_or_mistakes(name: str, budget: int, is_solved: bool, is_of_folder: bool) -> List[Tuple[Report, Optional[bytes]]]:
-    """The reports on one file; of one that a folder has beside policies, that it is left out."""
+def _held_or_mistakes(name: str, is_of_folder: bool, budget: int, is_solved: bool) -> List[Held]:
+    """The reports on one file before the engine is asked; of one that a folder has beside policies, that it is left out."""
     try:
         data = read_file(name)
         if is_of_folder and not is_binary(data) and not may_hold_policy(data):
-            return [(Report(name, "", None, [], [], [], is_left_out=True), None)]
-        return _reports(name, data, budget, is_solved)
+            return [Held(Report(name, "", None, [], [], [], is_left_out=True))]
+        return _held(name, data, budget, is_solved)
     except Mistake as mistake:
-        return [(Report(name_of(name), "", None, [], [mistake], []), None)]
+        return [Held(Report(name_of(name), "", None, [], [mistake], []))]
     except OSError as fault:
         unread = Mistake(f"policy: cannot read {name_of(name)}: {fault.strerror}")
-        return [(Report(name_of(name), "", None, [], [unread], [], is_unread=True), None)]
+        return [Held(Report(name_of(name), "", None, [], [unread], [], is_unread=True))]
 
 
-def _reports(name: str, data: bytes, budget: int, is_solved: bool) -> List[Tuple[Report, Optional[bytes]]]:
+def _held(name: str, data: bytes, budget: int, is_solved: bool) -> List[Held]:
     if kind_of(data) == BYTES and is_binary(data):
         held = filters_in(bounded(name, data))
-        return [_bytes_report(name_of(name), one, bytes_, budget, is_solved) for one, bytes_ in held]
+        return [_of_bytes(name_of(name), one, bytes_, budget, is_solved) for one, bytes_ in held]
     source = Source(name_of(name), text_of_policy(name, data))
     held = contents(source, budget)
-    reports: List[Tuple[Report, Optional[bytes]]] = []
+    reports: List[Held] = []
     about_file = held.findings
     if held.own_mistakes or not held.filters:
-        reports.append((Report(source.name, "", source, about_file, held.own_mistakes, []), None))
+        reports.append(Held(Report(source.name, "", source, about_file, held.own_mistakes, [])))
         about_file = []
     silencing = Silencing(source)
     for index, one in enumerate(held.filters, 1):
         is_whole = not one.mistakes and not are_refused(one.findings)
         notes = silencing.kept(_notes(one.message, one.encoding, is_solved and is_whole))
         notes += silencing.unused(is_solved and is_whole) if index == len(held.filters) and not held.mistakes else []
-        reports.append(_report(source, one, about_file + one.findings + notes))
+        reports.append(_of_text(source, one, about_file + one.findings + notes))
         about_file = []
     return reports
 
@@ -127,13 +132,13 @@ def _notes(message: Message, encoding: Optional[Encoding], is_solved: bool) -> L
     return found + (lint.solved_notes(message, encoding, found) if is_solved else [])
 
 
-def _report(source: Source, one: Encoded, findings: List[Finding]) -> Tuple[Report, Optional[bytes]]:
+def _of_text(source: Source, one: Encoded, findings: List[Finding]) -> Held:
     bounds = [] if one.mistakes else bounds_of(one.message)
-    report = Report(source.name, one.name, source, findings, one.mistakes, bounds, None, one.message, one.encoding)
-    return report, None if one.mistakes else one.data
+    report = Report(source.name, one.name, source, findings, one.mistakes, bounds)
+    return Held(report, None if one.mistakes else one.data, one.message, one.encoding)
 
 
-def _bytes_report(file: str, name: str, data: bytes, budget: int, is_solved: bool) -> Tuple[Report, bytes]:
+def _of_bytes(file: str, name: str, data: bytes, budget: int, is_solved: bool) -> Held:
     """The report on a filter in bytes; a condition's fault has the condition's text."""
     message = read(descriptor(FILTER), data, None)
     found = [
@@ -144,7 +149,7 @@ def _bytes_report(file: str, name: str, data: bytes, budget: int, is_solved: boo
         found = [_with_origin(_with_line(one, lines), message) for one in found]
     found += too_costly(message, budget)
     found += _notes(message, None, is_solved and not are_refused(found))
-    return Report(file, name, None, found, [], bounds_of(message), None, message), data
+    return Held(Report(file, name, None, found, [], bounds_of(message)), data, message)
 
 
 def _lines_of_texts(file: str, data: bytes) -> dict:
@@ -182,15 +187,17 @@ def _with_origin(one: Finding, message: Message) -> Finding:
     return one if where is None or not colon else one._replace(words=f"{offset}, {where}: {rest}")
 
 
-def _answered(report: Report, answer: engine.Admission) -> Report:
+def _answered(held: Held, answer: engine.Admission, visits: int) -> Report:
     """The report with the engine's answer; a refusal that the tool did not find has the engine's place."""
-    findings = report.findings
+    findings = held.report.findings
     if answer.number and not any(one.number == answer.number for one in findings):
         told = engine_place(answer.answer.get("place"))
-        place = place_in_file(told, report.message, report.encoding)
-        named = named_node(told, report.message)
+        place = place_in_file(told, held.message, held.encoding)
+        named = named_node(told, held.message)
         what = "this" if named is None else f"node {named.node.id}, {named.told()}"
         cause = answer.answer.get("cause")
         words = f"the engine refuses {what}" + (f": {cause}" if cause else "")
+        # the tool knows the other limits of this number
+        words += f"; the limit of visits is {visits} (--visits declares another)" if answer.number == TOO_LARGE else ""
         findings = [*findings, Finding(answer.number, words, place, told.path)]
-    return report._replace(findings=findings, admission=answer)
+    return held.report._replace(findings=findings, admission=answer)

@@ -91,11 +91,12 @@ def condition_of(policy: Message) -> Optional[Condition]:
 
 
 class Bound(NamedTuple):
-    """How many steps the condition of a policy may take: None where that is above the greatest budget."""
+    """How many steps the condition of a policy may take, None where that is above the greatest budget; and the condition's path
+    in the policy, None where there is no condition."""
 
     policy: str
     steps: Optional[int]
-    condition: Optional[Condition]
+    condition: Optional[tuple]
 
 
 def bounds_of(message: Message) -> List[Bound]:
@@ -114,7 +115,7 @@ def _bounds(message: Message) -> List[Bound]:
             continue
         typing = typing_of(condition.message)
         if typing is not None and typing.is_whole:
-            bounds.append(Bound(name, _steps(condition, typing), condition))
+            bounds.append(Bound(name, _steps(condition, typing), condition.path))
     return bounds
 
 

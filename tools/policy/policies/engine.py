@@ -13,6 +13,8 @@ import tempfile
 import threading
 from typing import Callable, Dict, Iterable, List, NamedTuple, Optional
 
+from .bounds import Budget
+
 TOP = pathlib.Path(__file__).resolve().parents[3]
 BUILT = TOP / "crates" / "rbacd" / "out" / "rbacd"
 # Compiled without a proof, by `bin/rbacd --unproved`.
@@ -100,7 +102,8 @@ class Engine:
         """A file with these bytes."""
         with self.lock:
             if data not in self.files:
-                path = os.path.join(self.room.name, str(len(self.files)))
+                # several processes may use the folder
+                path = os.path.join(self.room.name, f"{os.getpid()}-{len(self.files)}")
                 with open(path, "wb") as file:
                     file.write(data)
                 self.files[data] = path
@@ -126,21 +129,21 @@ class Engine:
             raise NoEngine(f"{self.program}: {answer['error']}: {answer.get('cause')}")
         return answer
 
-    def admission(self, data: bytes, budget: int) -> Admission:
+    def admission(self, data: bytes, budget: Budget) -> Admission:
         """What the engine says of a filter."""
-        ran = self._run(["check", "--policy", self._file(data), "--budget", str(budget), "--json"])
+        ran = self._run(["check", "--policy", self._file(data), *budget.words(), "--json"])
         answer = self._object(ran.stdout.decode(errors="replace").strip())
         if not ("policies" in answer or "refused" in answer):
             raise NoEngine(f"{self.program} answered {answer}: is this rbacd?")
         return Admission(answer)
 
-    def admissions(self, filters: Iterable[bytes], budget: int) -> List[Admission]:
+    def admissions(self, filters: Iterable[bytes], budget: Budget) -> List[Admission]:
         """What the engine says of several filters, several at a time."""
         return list(in_parallel(lambda data: self.admission(data, budget), filters))
 
-    def decisions(self, data: bytes, requests: List[Request], budget: int, explain: bool = False) -> List[dict]:
+    def decisions(self, data: bytes, requests: List[Request], budget: Budget, explain: bool = False) -> List[dict]:
         """What the engine decides on requests, by one process: the object that `judge --json` prints for each."""
-        words = ["judge", "--policy", self._file(data), "--budget", str(budget), "--json", "--batch"]
+        words = ["judge", "--policy", self._file(data), *budget.words(), "--json", "--batch"]
         words += ["--explain"] if explain else []
         given = "".join(map(_batch_line, requests)).encode()
         ran = self._run(words, given, PATIENCE + len(requests) // REQUESTS_A_SECOND)
@@ -163,5 +166,9 @@ def _batch_line(request: Request) -> str:
 
 def in_parallel(work: Callable, given: Iterable) -> Iterable:
     """What is made of each, in order, several at a time."""
+    given = list(given)
+    if len(given) < 2:
+        yield from map(work, given)
+        return
     with concurrent.futures.ThreadPoolExecutor(AT_ONCE) as pool:
         yield from pool.map(work, given)

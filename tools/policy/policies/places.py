@@ -88,6 +88,10 @@ class Source:
         if self.text.lstrip()[:1] in ("{", "["):
             self.text = SURROGATES.sub(_joined, self.text)
 
+    def __getstate__(self) -> dict:
+        """What another process needs of it."""
+        return {name: getattr(self, name) for name in ("name", "text", "written")}
+
     @cached_property
     def starts(self) -> List[int]:
         """The index of each line's first character."""

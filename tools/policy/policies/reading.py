@@ -38,15 +38,15 @@ class Contents(NamedTuple):
         return self.own_mistakes + [mistake for one in self.filters for mistake in one.mistakes]
 
 
-def contents(source: Source, budget: int = BUDGET, dotted: bool = False) -> Contents:
-    """The filters of a file."""
+def contents(source: Source, budget: Optional[int] = BUDGET, dotted: bool = False) -> Contents:
+    """The filters of a file; without a budget what the engine would refuse or skip is not looked for."""
     reading = Reading(source)
     reading.read()
     filters = [encoded(source, form, budget, dotted) for form in reading.forms]
     return Contents(filters, reading.findings, reading.mistakes, reading.is_policy)
 
 
-def encoded(source: Source, form: Form, budget: int, dotted: bool) -> Encoded:
+def encoded(source: Source, form: Form, budget: Optional[int], dotted: bool) -> Encoded:
     """The filter of one form."""
     encoding = Encoding(source, dotted, is_bounded=True)
     message, data = encoding.filter_of(form.node), b""
@@ -54,7 +54,8 @@ def encoded(source: Source, form: Form, budget: int, dotted: bool) -> Encoded:
         data = encoding.writer.write(message)
         if len(data) > GREATEST_FILTER:
             encoding.mistakes.append(encoding.mistake(form.node, TOO_LONG))
-    encoding.find_faults(message, budget)
+    if budget is not None:
+        encoding.find_faults(message, budget)
     findings = [*form.findings, *(found for found in encoding.findings if not _is_told(found, form))]
     return Encoded(form.name, data, message, findings, encoding, encoding.mistakes)
 

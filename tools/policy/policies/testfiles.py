@@ -9,7 +9,7 @@ from typing import Dict, List, NamedTuple, Optional, Tuple, Union
 
 import yaml
 
-from .bounds import BUDGET, GREATEST_BUDGET
+from .bounds import GREATEST, Budget
 from .engine import Request
 from .files import (
     BYTES,
@@ -31,8 +31,8 @@ from .reader import read
 from .reading import contents, encoded
 from .requests import Reader
 
-FILE_FIELDS = ("policy", "filter", "budget", "facts", "tests")
-TEST_FIELDS = ("name", "policy", "filter", "budget", "request", "facts", "expect", "matched")
+FILE_FIELDS = ("policy", "filter", "budget", "visits", "facts", "tests")
+TEST_FIELDS = ("name", "policy", "filter", "budget", "visits", "request", "facts", "expect", "matched")
 EXPECTATION = re.compile(r"(allow|deny|steps|refused(?: (?:\d+ )?\w+)?|head (?:400|431|501))\Z")
 # What `matched` says if no policy matched.
 NO_POLICY = "none"
@@ -44,7 +44,7 @@ class Subject(NamedTuple):
 
     name: str
     data: bytes
-    budget: int
+    budget: Budget
 
 
 class Test(NamedTuple):
@@ -161,7 +161,7 @@ class TestFile:
     def _subject(self, fields: Dict[str, Node], at: Node) -> Union[Subject, Mistake]:
         """The filter of a test, or the mistake in it, which all tests of the filter share."""
         policy = fields.get("policy")
-        key = (id(policy), text_of(fields.get("filter")), id(fields.get("budget")))
+        key = (id(policy), text_of(fields.get("filter")), id(fields.get("budget")), id(fields.get("visits")))
         if key not in self.subjects:
             try:
                 self.subjects[key] = self._filter(policy, fields, at)
@@ -173,26 +173,35 @@ class TestFile:
         if policy is None:
             told = "`policy` is expected, in the test or in the file: a file's name, or the filter itself"
             raise self.reader.mistake(at, told)
-        budget = self._budget(fields.get("budget"))
+        budget = self._budget(fields)
         if isinstance(policy, yaml.MappingNode):
             return self._inline(policy, budget)
         return self._file(policy, text_of(fields.get("filter")), budget)
 
-    def _budget(self, node: Optional[Node]) -> int:
-        text = text_of(node) if node is not None else str(BUDGET)
-        if text is None or not text.isdigit() or not 1 <= int(text) <= GREATEST_BUDGET:
-            raise self.reader.mistake(node, f"a budget is a number from 1 to {GREATEST_BUDGET}")
+    def _budget(self, fields: Dict[str, Node]) -> Budget:
+        """The budget of a test, which has the usual number of what is not given."""
+        usual = Budget()
+        return Budget(
+            self._number(fields.get("budget"), usual.steps, GREATEST.steps, "a budget is a number"),
+            self._number(fields.get("visits"), usual.visits, GREATEST.visits, "visits are a number"),
+        )
+
+    def _number(self, node: Optional[Node], usual: int, most: int, told: str) -> int:
+        """A number from 1 to another."""
+        text = text_of(node) if node is not None else str(usual)
+        if text is None or not text.isascii() or not text.isdigit() or not 1 <= int(text) <= most:
+            raise self.reader.mistake(node, f"{told} from 1 to {most}")
         return int(text)
 
-    def _inline(self, node: Node, budget: int) -> Subject:
+    def _inline(self, node: Node, budget: Budget) -> Subject:
         if get(node, "rules") is None:
             raise self.reader.mistake(node, "a filter has `rules`")
-        made = encoded(self.source, rewritten(self.source, Form("", node)), budget, False)
+        made = encoded(self.source, rewritten(self.source, Form("", node)), budget.steps, False)
         if made.mistakes:
             raise together(made.mistakes)
         return Subject(f"the policy of {self.source.name}", made.data, budget)
 
-    def _file(self, node: Node, chosen: Optional[str], budget: int) -> Subject:
+    def _file(self, node: Node, chosen: Optional[str], budget: Budget) -> Subject:
         name = text_of(node)
         if not name or not name.isprintable():
             raise self.reader.mistake(node, "a file's name is a text of one line")
@@ -243,7 +252,7 @@ def filter_in(path: str, data: bytes, chosen: Optional[str] = None) -> bytes:
 def _filters_of_text(path: str, data: bytes) -> List[Tuple[str, bytes]]:
     """The filters of a file of text, each with its name."""
     try:
-        held = contents(Source(name_of(path), text_of_policy(path, data)))
+        held = contents(Source(name_of(path), text_of_policy(path, data)), budget=None)
     except Mistake as mistake:
         raise NoPolicy(str(mistake), mistake.place, mistake.words) from None
     if held.mistakes:

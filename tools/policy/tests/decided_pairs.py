@@ -46,6 +46,21 @@ EQUAL_PAIRS = [
     ('size(request.headers["content-length"]) < 19', '"content-length" in request.headers'),
     ("connection.mtls && !connection.mtls", "1 / 0 == 1"),
     ('string(source.port) == "80"', "source.port == 80"),
+    # lists of many possible lengths
+    (
+        '(["a", "b", "c", "d"].filter(e, e in request.headers) + ["e", "f", "g"].filter(e, e in request.headers)).size() == 7',
+        '["a", "b", "c", "d", "e", "f", "g"].all(e, e in request.headers)',
+    ),
+    # conversions: an int from 2^63 on, and a uint below 0, are errors
+    ("int(connection.id) >= 0", "connection.id < 9223372036854775808u"),
+    ("uint(source.port - 80) >= 0u", "source.port >= 80"),
+    # numbers as texts: by their digits, by their order, and by their size
+    ('string(source.port).startsWith("80")', "source.port == 80 || source.port / 10 == 80 || source.port / 100 == 80"),
+    ('string(source.port).endsWith("00")', "source.port % 100 == 0 && source.port > 0"),
+    ('string(source.port - 9).contains("-")', "source.port < 9"),
+    ('string(source.port) < "10"', "source.port <= 1"),
+    ('size(string(source.port)) == 3', "source.port > 99 && source.port < 1000"),
+    ('string(source.port) == string(destination.port)', "source.port == destination.port"),
     # a server name has no letters from A to Z
     ('connection.requested_server_name == "A"', "false"),
     # names of headers are in lower case, and none is named host
@@ -74,6 +89,13 @@ DIFFERENT_PAIRS = [
     ),
     ('request.path.endsWith(request.headers["x-u"])', 'request.path.contains(request.headers["x-u"])'),
     ("int(connection.id) % 3 == 0", "connection.id % 3u == 0u"),
+    ("int(connection.id) >= 0", "connection.id >= 0u"),
+    ("int(connection.id) == 9223372036854775807", "connection.id >= 9223372036854775807u"),
+    ("connection.id == uint(9223372036854775807) + 1u", "connection.id == 9223372036854775807u"),
+    ('string(source.port) == request.query', 'string(source.port) == request.query && source.port > 5'),
+    ('size(request.url_path) == size(request.query)', 'request.url_path == "/" && size(request.query) == 1'),
+    ('request.path.contains(request.headers["x-u"] + "/")', 'request.path.startsWith(request.headers["x-u"] + "/")'),
+    ('request.headers["a"] < request.headers["b"]', 'request.headers["a"] <= request.headers["b"]'),
     (
         'size(request.path) > 4000 && request.path.contains("/x/") && request.path.endsWith(".js")',
         'size(request.path) > 4000 && request.path.contains("/x/") && request.path.endsWith(".js") && size(request.path) < 4096',

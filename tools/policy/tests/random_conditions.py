@@ -1,6 +1,7 @@
 """Random conditions of CEL as texts: every operator, function and macro of the profile, of the types that it takes."""
 import json
 import random
+import re
 
 WORDS = ["", "a", "b", "ab", "aba", "A", "/", "/a", "/a/b", "x", "é", "GET", "?", "q=1", "#", "10", "-5", "+7", "007", "9", ","]
 WORDS += ["a,b", "spiffe://a"]
@@ -9,12 +10,79 @@ FACTS = ["source.address", "destination.address", "connection.requested_server_n
 FACTS += [f"connection.{kind}_peer_certificate" for kind in ("subject", "dns_san", "uri_san")]
 TEXTS = ["request.path", "request.url_path", "request.query", "request.host", "request.method", "request.referer"]
 TEXTS += ["request.useragent", "request.id", "request.scheme", "request.protocol", *FACTS]
-INTS = ["source.port", "destination.port", "request.headers.size()", "0", "1", "-1", "3", "7", "80"]
-INTS += ["9223372036854775807", "-9223372036854775808"]
-UINTS = ["connection.id", "0u", "1u", "5u", "18446744073709551615u"]
-COMPARISONS = ["==", "!=", "<", "<=", ">", ">="]
-TESTS = ["startsWith", "endsWith", "contains"]
 INDEXED = [json.dumps(name) for name in [*NAMES, ":path", ":authority", "X-A"]]
+# What is chosen as it is, by its kind.
+CHOICES = {
+    "comparison": ["==", "!=", "<", "<=", ">", ">="],
+    "order": ["==", "!=", "<", "<="],
+    "operator": ["+", "-", "*", "/", "%"],
+    "connective": ["&&", "||"],
+    "test": ["startsWith", "endsWith", "contains"],
+    "quantifier": ["all", "exists", "exists_one"],
+    "index": ["0", "1", "2", "source.port"],
+    "number": ["source.port", "connection.id", "7"],
+    "plain int": ["source.port", "destination.port", "request.headers.size()", "0", "1", "-1", "3", "7", "80"]
+    + ["9223372036854775807", "-9223372036854775808"],
+    "plain uint": ["connection.id", "0u", "1u", "5u", "18446744073709551615u"],
+    "attribute": TEXTS,
+    "plain text": ["<literal>"] * 6 + ["request.headers[<name>]"] * 5 + ["<attribute>"] * 9,
+    "name": [*INDEXED, "<literal>", f"request.headers[{INDEXED[0]}]"],
+    "plain bool": ["true", "false", "connection.mtls", "has(request.headers.accept)", "<literal> in request.headers"],
+    "plain list": ["[<text>, <text>]", "[<text>, <text>]", "[<text>]"],
+    # loops: over names, over names and texts, over elements, over indices and elements
+    "of name": ["k.<test>(<text>)", "k == <text>", "size(k) > 5 && <bool>"],
+    "of both": ["v == <text>", "<of name> || v.startsWith(<text>)", "size(v) < <int>"],
+    "of element": ["e == <text>", "e.<test>(<text>)", "e.size() > 1 || <bool>"],
+    "of index": ["i > 0 && <of element>", "i == <int> || e < <text>"],
+    "loop": ["request.headers.<quantifier>(k, <of name>)", "request.headers.<quantifier>(k, v, <of both>)"] * 2
+    + ['{"a": "x", "b": ""}.<quantifier>(k, <of name>)', '{"a": "x", "b": ""}.<quantifier>(k, v, <of both>)']
+    + ["<list>.<quantifier>(e, <of element>)", "<list>.<quantifier>(i, e, <of index>)"],
+}
+# How else a value of a kind is made, each way with how often it comes.
+WAYS = {
+    "text": [
+        (0.1, "(<text> + <text>)"),
+        (0.05, "(<bool> ? <text> : <text>)"),
+        (0.05, "<list>[<index>]"),
+        (0.03, '{"a": <text>, "b": <text>}[<text>]'),
+        (0.02, "{1: <text>, 80: <text>}[<int>]"),
+        (0.02, "request.headers.accept"),
+        (0.02, "string(<number>)"),
+    ],
+    "int": [
+        (0.3, "(<int> <operator> <int>)"),
+        (0.1, "int(<uint>)"),
+        (0.15, "size(<text>)"),
+        (0.03, "<text>.size()"),
+        (0.05, "<list>.size()"),
+        (0.05, "-(<int>)"),
+    ],
+    "list": [
+        (0.15, "(<list> + <list>)"),
+        (0.1, "<list>.map(e, <text>)"),
+        (0.1, "<list>.map(e, <of element>, e + <text>)"),
+        (0.2, "<list>.filter(e, <of element>)"),
+        (0.1, "<list>.transformList(i, e, e + <text>)"),
+        (0.1, "<list>.transformList(i, e, <of index>, e)"),
+    ],
+    "uint": [(0.35, "(<uint> <operator> <uint>)"), (0.2, "uint(<int>)")],
+    "bool": [
+        (0.2, "(<bool> <connective> <bool>)"),
+        (0.07, "!(<bool>)"),
+        (0.05, "(<bool> ? <bool> : <bool>)"),
+        (0.15, "<text> <comparison> <text>"),
+        (0.12, "<int> <comparison> <int>"),
+        (0.05, "<uint> <comparison> <uint>"),
+        (0.1, "<text>.<test>(<text>)"),
+        (0.04, "<text> in <list>"),
+        (0.01, '<text> in {"a": 1, <text>: 2}'),
+        (0.01, "<list> == <list>"),
+        (0.01, "<list> != <list>"),
+        (0.03, "(<bool>) <order> (<bool>)"),
+        (0.15, "<loop>"),
+    ],
+}
+PART = re.compile(r"<([a-z ]+)>")
 
 
 class Conditions:
@@ -31,92 +99,23 @@ class Conditions:
         """A text in quotes."""
         return json.dumps(self.chance.choice(WORDS), ensure_ascii=False)
 
-    def of_ways(self, depth, ways, plain):
-        """One of the ways, each with how often it comes, or what is plain."""
+    def bool(self, depth):
+        """A condition of some levels."""
+        return self.part("bool", depth)
+
+    def part(self, kind, depth):
+        """A part of a kind, of some levels."""
+        if kind == "literal":
+            return self.literal()
+        if kind in CHOICES:
+            return self.filled(self.pick(*CHOICES[kind]), depth)
         chance = self.chance.random()
-        for share, make in ways if depth else ():
+        for share, way in WAYS[kind] if depth else ():
             chance -= share
             if chance < 0:
-                return make(depth - 1)
-        return plain()
+                return self.filled(way, depth - 1)
+        return self.filled(f"<plain {kind}>", depth)
 
-    def text(self, depth):
-        """A string."""
-        return self.of_ways(
-            depth,
-            [
-                (0.1, lambda d: f"({self.text(d)} + {self.text(d)})"),
-                (0.05, lambda d: f"({self.bool(d)} ? {self.text(d)} : {self.text(d)})"),
-                (0.05, lambda d: f"[{self.text(d)}, {self.text(d)}][{self.pick('0', '1', '2', 'source.port')}]"),
-                (0.03, lambda d: f'{{"a": {self.text(d)}, "b": {self.text(d)}}}[{self.text(d)}]'),
-                (0.02, lambda d: f"string({self.pick('source.port', 'connection.id', '7')})"),
-            ],
-            self.plain_text,
-        )
-
-    def plain_text(self):
-        """A literal, a header or an attribute."""
-        chance = self.chance.random()
-        if chance < 0.3:
-            return self.literal()
-        if chance < 0.55:
-            return f'request.headers[{self.pick(*INDEXED, self.literal(), "request.headers[" + INDEXED[0] + "]")}]'
-        return self.pick(*TEXTS)
-
-    def int(self, depth):
-        """An int."""
-        return self.of_ways(
-            depth,
-            [
-                (0.3, lambda d: f"({self.int(d)} {self.pick('+', '-', '*', '/', '%')} {self.int(d)})"),
-                (0.1, lambda d: f"int({self.uint(d)})"),
-                (0.2, lambda d: f"size({self.text(d)})"),
-                (0.05, lambda d: f"[{self.text(d)}, {self.text(d)}].filter(e, {self.bool(d)}).size()"),
-                (0.05, lambda d: f"-({self.int(d)})"),
-            ],
-            lambda: self.pick(*INTS),
-        )
-
-    def uint(self, depth):
-        """A uint."""
-        return self.of_ways(
-            depth,
-            [
-                (0.35, lambda d: f"({self.uint(d)} {self.pick('+', '-', '*', '/', '%')} {self.uint(d)})"),
-                (0.2, lambda d: f"uint({self.int(d)})"),
-            ],
-            lambda: self.pick(*UINTS),
-        )
-
-    def bool(self, depth):
-        """A bool."""
-        plain = ["true", "false", "connection.mtls", "has(request.headers.accept)", f"{self.literal()} in request.headers"]
-        if not depth:
-            return self.pick(*plain)
-        return self.of_ways(
-            depth,
-            [
-                (0.2, lambda d: f"({self.bool(d)} {self.pick('&&', '||')} {self.bool(d)})"),
-                (0.07, lambda d: f"!({self.bool(d)})"),
-                (0.05, lambda d: f"({self.bool(d)} ? {self.bool(d)} : {self.bool(d)})"),
-                (0.15, lambda d: f"{self.text(d)} {self.pick(*COMPARISONS)} {self.text(d)}"),
-                (0.12, lambda d: f"{self.int(d)} {self.pick(*COMPARISONS)} {self.int(d)}"),
-                (0.05, lambda d: f"{self.uint(d)} {self.pick(*COMPARISONS)} {self.uint(d)}"),
-                (0.1, lambda d: f"{self.text(d)}.{self.pick(*TESTS)}({self.text(d)})"),
-                (0.05, lambda d: f"{self.text(d)} in [{self.text(d)}, {self.text(d)}]"),
-                (0.03, lambda d: f"({self.bool(d)}) {self.pick('==', '!=', '<', '<=')} ({self.bool(d)})"),
-                (0.15, self.loop),
-            ],
-            lambda: self.pick(*plain),
-        )
-
-    def loop(self, depth):
-        """A loop over headers, a list or a map."""
-        tests = [f"k.{self.pick(*TESTS)}({self.text(depth)})", f"k == {self.text(depth)}", f"size(k) > 5 && {self.bool(depth)}"]
-        inner = self.pick(*tests)
-        macro, lists = self.pick("all", "exists", "exists_one"), f"[{self.text(depth)}, {self.text(depth)}]"
-        where = self.pick("request.headers", "request.headers", lists, '{"a": "x", "b": ""}')
-        if where.startswith("[") or self.chance.random() < 0.5:
-            return f"{where}.{macro}(k, {inner})"
-        pairs = [f"v == {self.text(depth)}", f"{inner} || v.startsWith({self.text(depth)})", f"size(v) < {self.int(depth)}"]
-        return f"{where}.{macro}(k, v, {self.pick(*pairs)})"
+    def filled(self, way, depth):
+        """A way with its parts made."""
+        return PART.sub(lambda part: self.part(part[1], depth), way)

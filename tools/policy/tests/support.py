@@ -4,7 +4,7 @@ import os
 import pathlib
 import sys
 
-from policies import messages
+from policies import engine, messages
 from policies.encode import encode
 from policies.places import Source
 from policies.reader import read
@@ -17,6 +17,8 @@ ENGINE = pathlib.Path(os.environ.get("RBACD") or TOP / "crates" / "rbacd" / "out
 NO_ENGINE = f"the engine is not built: {ENGINE} is not there"
 NO_SOLVER = "python3-z3 is not installed"
 sys.setrecursionlimit(20_000)
+# a busy machine takes longer to answer
+engine.PATIENCE = 600
 POLICY = """rules:
   policies:
     p:

@@ -163,6 +163,22 @@ class WithEngine(Room):
             self.assertIn(words, out.decode())
         self.assertNotIn("x-d makes this", out.decode())
 
+    def test_visits(self):
+        """Only the engine counts visits: each command that asks it says how many there may be."""
+        self.file("f.yaml", condition('request.method == "GET"'))
+        told = "f.yaml:9:15: the engine refuses this: a limit of size, number or depth is exceeded; the limit of visits is 2"
+        status, out, _ = self.run_here("check", "--engine", ENGINE, "--visits", "2", "f.yaml")
+        self.assertEqual((status, out.decode().startswith(told)), (1, True), out)
+        for words, wanted in ((["check"], 1), (["judge"], 1), (["ask", "--allowed"], 2), (["diff", "f.yaml"], 2)):
+            with self.subTest(words):
+                found = [self.run_here(*words, "f.yaml", "--engine", ENGINE, "--visits", visits) for visits in ("2", "1000")]
+                self.assertEqual((found[0][0], found[1][0] in (0, 1, 3)), (wanted, True), found)
+                self.assertTrue(any(b"TooLarge" in out or "TooLarge" in errors for _, out, errors in found[:1]), found)
+                self.assertFalse(any(b"TooLarge" in out or "TooLarge" in errors for _, out, errors in found[1:]), found)
+        status, _, errors = self.run_here("check", "--visits", "0", "f.yaml")
+        self.assertEqual(status, 2)
+        self.assertIn("a number from 1 to 9223372036854775807 is expected, not 0", errors)
+
     def test_hundred_policies(self):
         lines = ["rules:", "  policies:"]
         for number in range(100):

@@ -5,6 +5,7 @@ import unittest
 from unittest import mock
 
 from policies import requirements
+from policies.bounds import Budget
 from policies.compare.candidates import MOST_LEAVES, candidates
 from policies.compare.drafts import request_of, shown
 from policies.compare.leaves import holds, policies_of
@@ -154,9 +155,8 @@ PAIRS = [
 ]
 
 
-@unittest.skipUnless(has_solver() and ENGINE.exists(), NO_SOLVER if ENGINE.exists() else NO_ENGINE)
-class Decided(Room):
-    """What the command prints with a solver."""
+class Filters(Room):
+    """Two filters in a room."""
 
     def compare(self, old, new, *words):
         """A run on two texts of filters."""
@@ -165,6 +165,20 @@ class Decided(Room):
         status, out, errors = self.run_here("diff", "--engine", ENGINE, "--seconds", "120", *words, "old.yaml", "new.yaml")
         self.assertEqual(errors, "")
         return status, out.decode().splitlines()
+
+
+@unittest.skipUnless(has_solver() and ENGINE.exists(), NO_SOLVER if ENGINE.exists() else NO_ENGINE)
+class Decided(Filters):
+    """What the command prints with a solver."""
+
+    def setUp(self):
+        super().setUp()
+        from policies.compare import deciding
+
+        # on a busy machine it takes longer to say that there are no others
+        patient = mock.patch.object(deciding, "SECONDS_A_PAIR", 60.0)
+        patient.start()
+        self.addCleanup(patient.stop)
 
     def test_pairs(self):
         """One request for each pair of deciding policies."""
@@ -221,7 +235,7 @@ class Decided(Room):
 
 
 @unittest.skipUnless(ENGINE.exists(), NO_ENGINE)
-class Compared(Room):
+class Compared(Filters):
     """What the command prints without a solver."""
 
     def setUp(self):
@@ -229,14 +243,6 @@ class Compared(Room):
         without = mock.patch.object(requirements, "missing_solver", lambda: ["python3-z3"])
         without.start()
         self.addCleanup(without.stop)
-
-    def compare(self, old, new, *words):
-        """A run on two texts of filters."""
-        self.file("old.yaml", old)
-        self.file("new.yaml", new)
-        status, out, errors = self.run_here("diff", "--engine", ENGINE, *words, "old.yaml", "new.yaml")
-        self.assertEqual(errors, "")
-        return status, out.decode().splitlines()
 
     def test_pairs(self):
         for old, new, count in PAIRS:
@@ -302,7 +308,7 @@ class Compared(Room):
                 data = encode(Source("f.yaml", filter_of([policy([rule], ["{any: true}"])]).encode()))[0]
                 [leaf] = policies_of(message_of(data))[0].permissions
                 drafts = candidates(policies_of(message_of(data))).drafts
-                answers = asked.decisions(data, [request_of(draft) for draft in drafts], 1_000_000)
+                answers = asked.decisions(data, [request_of(draft) for draft in drafts], Budget())
                 for draft, answer in zip(drafts, answers):
                     wanted = "allow" if holds(leaf, draft[leaf.dimension]) else "deny"
                     self.assertEqual(answer.get("verdict"), wanted, (rule, shown(draft)))

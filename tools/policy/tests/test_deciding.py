@@ -1,26 +1,28 @@
 """Filters compared for all requests: pairs whose answer is known, and random pairs beside the engine."""
-import time
 import unittest
+from functools import partial
+from typing import NamedTuple
 
+from cases import rule
 from decided_pairs import DIFFERENT_PAIRS, EQUAL_PAIRS, GAPS
+from policies.bounds import Budget
 from policies.compare.drafts import request_of, shown
 from policies.compare.judging import Judges, decisions, side_of
 from policies.engine import Engine
 from policies.outcomes import told
 from policies.places import Mistake
+from policies.workers import in_processes
 from random_questions import Maker
 from support import ENGINE, NO_ENGINE, NO_SOLVER, condition, encoded, has_solver, times
 
 if has_solver():
     from policies.compare.deciding import DIFFER, EQUAL, NOT_DECIDED, decide
 
-# Of more expensive conditions the engine would judge hundreds of requests for minutes.
-BUDGET = 5_000_000
-PAIRS, TRIED = 8, 300
+BUDGET = Budget()
+# So many pairs are made, of which the engine takes so many at least; equal ones are tried by so many requests, in parts.
+MADE, PAIRS, TRIED, TRIED_AT_ONCE = 130, 100, 300, 50
 SEED = 2
-PATIENCE = 120
-# A large run is to tell how many pairs are decided.
-PATIENCE_AT_RANDOM = 8 if times() == 1 else 20
+PATIENCE, PATIENCE_AT_RANDOM = 120, 30
 # Of random pairs so many at most are not decided.
 MOST_OPEN = 0.05
 
@@ -63,34 +65,53 @@ class Pairs(unittest.TestCase):
                 self.assertEqual(found.word, NOT_DECIDED)
                 self.assertIn(words, found.why)
 
-    def test_random(self):
-        """No request that was found is refused by the engine, and nothing equal is told apart by random requests."""
-        words = [self.random(SEED * 7_000_003 + number) for number in range(PAIRS * times())]
-        known = [word for word in words if word]
-        self.assertGreater(len(known), len(words) // 2)
-        if times() > 1:
-            self.assertLessEqual(known.count(NOT_DECIDED), MOST_OPEN * len(known))
-            print({word: known.count(word) for word in dict.fromkeys(known)})
+    def test_parts(self):
+        """A server name that is absent: in a rule it is the empty text, in a condition an error."""
+        name = "connection.requested_server_name"
+        found = self.decided(rule("{requested_server_name: {exact: ''}}"), condition(f'{name} == ""'))
+        self.assertEqual((found.word, [("fact", name) in one.draft for one in found.differences]), (DIFFER, [False]))
+        other = rule("{not_rule: {requested_server_name: {prefix: a}}}")
+        self.assertEqual(self.decided(other, condition(f'!{name}.startsWith("a")')).word, DIFFER)
+        self.assertEqual(self.decided(other, rule("{not_rule: {requested_server_name: {prefix: a, ignore_case: true}}}")).word, EQUAL)
 
-    def random(self, seed):
-        """What is decided of a random filter and one that was made of it; nothing if the engine refuses one."""
-        maker = Maker(seed)
-        old = maker.filter().replace("action: LOG", "action: ALLOW")
-        new = maker.changed(old)
-        try:
-            sides = [side_of(name, encoded(text)) for name, text in (("old", old), ("new", new))]
-        except Mistake:
-            return ""
-        if any(self.asked.admission(part, BUDGET).number for side in sides for part in side.parts):
-            return ""
-        started = time.monotonic()
-        found = self.decided(old, new, patience=PATIENCE_AT_RANDOM)
-        self.assertIn(found.word, (EQUAL, DIFFER, NOT_DECIDED), (seed, old, new, found))
-        self.assertNotIn("fault", found.why)
-        if times() > 1 and found.word == NOT_DECIDED:
-            print(seed, f"{time.monotonic() - started:.1f} s", found.why)
-        if found.word == EQUAL:
-            requests = [request_of(maker.request()) for _ in range(TRIED)]
-            one, other = decisions(self.asked, sides, requests, BUDGET)
-            self.assertEqual(list(map(told, one)), list(map(told, other)), (seed, old, new))
-        return found.word
+    def test_random(self):
+        """Of random pairs most are decided. No request that was found is refused by the engine, and nothing equal is told apart by
+        random requests."""
+        seeds = [SEED * 7_000_003 + number for number in range(MADE * times())]
+        found = list(in_processes(partial(compared, self), seeds))
+        known = [one for one in found if one.word]
+        wrong = [one for one in known if one.word not in (EQUAL, DIFFER, NOT_DECIDED) or "fault" in one.why]
+        self.assertFalse(wrong, wrong[:3])
+        self.assertGreaterEqual(len(known), PAIRS * times())
+        not_decided = [one for one in known if one.word == NOT_DECIDED]
+        self.assertLessEqual(len(not_decided), MOST_OPEN * len(known), not_decided[:3])
+
+
+class Compared(NamedTuple):
+    """A random filter and one that was made of it, what was decided of them, or nothing if the engine refuses one, and why."""
+
+    word: str
+    why: str
+    old: str
+    new: str
+
+
+def compared(test, seed):
+    """A random pair; it is another word if random requests tell equal filters apart."""
+    maker = Maker(seed)
+    old = maker.filter().replace("action: LOG", "action: ALLOW")
+    new = maker.changed(old)
+    try:
+        sides = [side_of(name, encoded(text)) for name, text in (("old", old), ("new", new))]
+    except Mistake:
+        return Compared("", "", old, new)
+    if any(test.asked.admission(part, BUDGET).number for side in sides for part in side.parts):
+        return Compared("", "", old, new)
+    found = test.decided(old, new, patience=PATIENCE_AT_RANDOM)
+    # the engine takes long for a few hundred requests
+    for _ in range(TRIED // TRIED_AT_ONCE if found.word == EQUAL else 0):
+        requests = [request_of(maker.request()) for _ in range(TRIED_AT_ONCE)]
+        one, other = decisions(test.asked, sides, requests, BUDGET)
+        if list(map(told, one)) != list(map(told, other)):
+            return Compared("not equal", "", old, new)
+    return Compared(found.word, found.why, old, new)

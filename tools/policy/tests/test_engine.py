@@ -9,7 +9,7 @@ import tempfile
 import unittest
 
 from policies import engine, reading
-from policies.bounds import GREATEST_BUDGET
+from policies.bounds import GREATEST, GREATEST_BUDGET
 from policies.conditions_typing import bounds_of
 from policies.decode import decode
 from policies.forms.envoy import Form
@@ -75,7 +75,7 @@ class Engine(unittest.TestCase):
         sources = [Source("filter.yaml", condition(text).encode()) for text in texts]
         made = [reading.encoded(one, Form("", one.compose()), GREATEST_BUDGET, False) for one in sources]
         with engine.Engine(ENGINE) as asked:
-            answers = asked.admissions([one.data for one in made], GREATEST_BUDGET)
+            answers = asked.admissions([one.data for one in made], GREATEST)
         for text, one, answer in zip(texts, made, answers, strict=True):
             with self.subTest(text):
                 found = {finding.number for finding in one.findings if finding.number}

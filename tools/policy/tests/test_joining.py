@@ -3,6 +3,7 @@ import itertools
 import random
 import unittest
 
+from policies.bounds import Budget
 from policies.engine import Engine, Request
 from policies.encode import encode
 from policies.joining import join
@@ -128,7 +129,7 @@ class Joined(Room):
                 text = filter_of(policies, action)
                 [one] = contents(Source("f.yaml", text.encode())).filters
                 message, names = joined(text)
-                both = [asked.decisions(data, asked_of, 1_000_000) for data in (one.data, PLAIN.write(message))]
+                both = [asked.decisions(data, asked_of, Budget()) for data in (one.data, PLAIN.write(message))]
                 verdicts = [[answer["verdict"] for answer in answers] for answers in both]
                 self.assertEqual(*verdicts, text)
                 self.assertLess(len(names), 8)

@@ -2,6 +2,7 @@
 import re
 import unittest
 
+from policies.bounds import Budget
 from policies.checking import NEVER, Wanted, check_files
 from policies.commands.check import as_text
 from policies.engine import Engine
@@ -149,7 +150,7 @@ class Kinds(unittest.TestCase):
     def reports(self, name):
         """The reports on a file, and their lines."""
         asked = engine_or_none()
-        reports = check_files([str(KINDS / name)], Wanted(1_000_000, NEVER), asked)
+        reports = check_files([str(KINDS / name)], Wanted(Budget(), NEVER), asked)
         if asked is not None:
             asked.room.cleanup()
         return reports, [line for report in reports for line in as_text(report, 1_000_000)]

@@ -3,6 +3,7 @@ import re
 import unittest
 
 from policies import lint
+from policies.bounds import Budget
 from policies.engine import Engine, Request
 from policies.lint.names import MEANINGS
 from policies.lint.of_paths import Paths, spellings
@@ -306,7 +307,7 @@ class PathsByTheEngine(unittest.TestCase):
     def verdicts(self, asked, text, paths):
         """Whether the engine denies each of some paths."""
         requests = [Request(f"GET {path} HTTP/1.1\r\nHost: h\r\n\r\n".encode(), self.FACTS) for path in paths]
-        answers = asked.decisions(encoded(text), requests, 1_000_000)
+        answers = asked.decisions(encoded(text), requests, Budget())
         return [answer["verdict"] == "deny" for answer in answers]
 
     def test_notes(self):

@@ -1,22 +1,40 @@
 """The model of requests, rules and conditions beside the engine, and on cases whose answer the standards say."""
+import time
 import unittest
+from functools import partial
+from typing import NamedTuple
+from unittest import mock
 
 from cases import principal, rule
+from policies.bounds import Budget
 from policies.compare.drafts import request_of
 from policies.compare.spaces import AUTHORITY, METHOD, TARGET, VERSION
 from policies.engine import Engine
 from policies.places import Mistake
+from policies.workers import in_processes
+from random_conditions import CHOICES
 from random_questions import Maker
 from support import ENGINE, NO_ENGINE, NO_SOLVER, condition, encoded, has_solver, times
 
 if has_solver():
-    from known_requests import verdict
+    from known_requests import verdicts
+    from policies.meaning import children
     from policies.meaning.terms import NotModelled
 
 PLAIN = {METHOD: "GET", TARGET: "/", AUTHORITY: "h", VERSION: "1.1"}
-FILTERS, REQUESTS = 60, 10
-BUDGET = 100_000_000
+# So many filters and requests of each are made; so many requests at least are compared.
+FILTERS, REQUESTS, WANTED = 500, 50, 20_000
+BUDGET = Budget()
 SEED = 1
+# What occurs in the filters that are compared: each action, matcher, operator, function and macro, and each attribute.
+EACH = ["ALLOW", "DENY", "LOG", "and_rules", "or_rules", "not_rule", "and_ids", "or_ids", "not_id", "any: true", "header: {", "url_path"]
+EACH += ["destination_ip", "destination_port:", "destination_port_range", "requested_server_name: {", "authenticated: {}", "principal_name"]
+EACH += ["{remote_ip", "{direct_remote_ip", "exact: ", "prefix: ", "suffix: ", "contains: ", "ignore_case", "exact_match", "string_match"]
+EACH += ["range_match", "present_match: true", "present_match: false", "invert_match", "treat_missing_header_as_empty"]
+EACH += [f" {sign} " for kind in ("comparison", "operator", "connective") for sign in CHOICES[kind]]
+EACH += [f"{name}(" for kind in ("quantifier", "test") for name in CHOICES[kind]] + CHOICES["attribute"]
+EACH += ["!(", "-(", " ? ", " in ", "has(", "size(", ".size()", "int(", "uint(", "string(", ".map(e, e", ".filter(", ".transformList("]
+EACH += ["(k, v, ", "(i, e, ", "[source.port]", "{1: ", "connection.id", "connection.mtls"]
 
 
 def fact(name, value):
@@ -125,7 +143,26 @@ class Cases(unittest.TestCase):
         for text, matched, others in CASES:
             for changes, wanted in [(one, ("allow", "p")) for one in matched] + [(one, ("deny", None)) for one in others]:
                 with self.subTest(text, changes=changes):
-                    self.assertEqual(verdict(encoded(text), {**PLAIN, **changes}), wanted)
+                    self.assertEqual(verdicts(encoded(text), [{**PLAIN, **changes}]), [wanted])
+
+
+@unittest.skipUnless(has_solver(), NO_SOLVER)
+class Processes(unittest.TestCase):
+    """Work in a process of its own."""
+
+    def test_late(self):
+        """What was found is read, also if the time is over then."""
+        with mock.patch.object(children, "GRACE", 0.0):
+            done = children.worked(lambda: iter(["one", "two"]), 0.0, lambda: time.sleep(1))
+        self.assertEqual(done, (["one", "two"], ""))
+
+    def test_faults(self):
+        def work():
+            yield "one"
+            raise NotModelled("a part")
+
+        self.assertEqual(children.worked(work, 60), (["one"], "a part"))
+        self.assertEqual(children.worked(lambda: time.sleep(60), 0.0), ([], "no answer in time"))
 
 
 @unittest.skipUnless(has_solver() and ENGINE.exists(), NO_SOLVER if ENGINE.exists() else NO_ENGINE)
@@ -145,27 +182,37 @@ class Random(unittest.TestCase):
             self.assertEqual([answer.get("verdict") for answer in answers], wanted, text)
 
     def test_random(self):
-        """Random filters and requests: the verdicts and the policies that decide are the same."""
-        counts = [self.compare(SEED * 1_000_003 + number) for number in range(FILTERS * times())]
-        self.assertGreater(sum(counts), FILTERS * REQUESTS * times() // 2)
-        if times() > 1:
-            print(f"{sum(counts)} requests of {sum(map(bool, counts))} filters compared")
+        """Random filters and requests: the verdicts and the policies that decide are the same, for enough of them, and for each
+        matcher and operation."""
+        seeds = [SEED * 1_000_003 + number for number in range(FILTERS * times())]
+        found = list(in_processes(partial(compared, self.asked), seeds))
+        different = [one.difference for one in found if one.difference]
+        self.assertFalse(different, different[:3])
+        self.assertGreaterEqual(sum(one.requests for one in found), WANTED * times())
+        texts = [one.text for one in found if one.requests]
+        self.assertEqual([word for word in EACH if not any(word in text for text in texts)], [])
 
-    def compare(self, seed):
-        """How many requests of one random filter were compared."""
-        maker = Maker(seed)
-        text = maker.filter()
-        drafts = [maker.request() for _ in range(REQUESTS)]
-        try:
-            data = encoded(text)
-        except Mistake:
-            return 0
-        answers = self.asked.decisions(data, list(map(request_of, drafts)), BUDGET)
-        if "refused" in answers[0]:
-            return 0
-        try:
-            for draft, answer in zip(drafts, answers):
-                self.assertEqual(verdict(data, draft), (answer.get("verdict"), answer.get("name")), (seed, text, draft))
-        except NotModelled:
-            return 0
-        return len(drafts)
+
+class Compared(NamedTuple):
+    """A random filter, how many requests of it were compared, and a request on which the model and the engine differ, if any."""
+
+    text: str
+    requests: int
+    difference: tuple = ()
+
+
+def compared(asked, seed):
+    """A random filter compared; none of its requests if the engine refuses it, or the model says that it cannot say it."""
+    maker = Maker(seed)
+    text = maker.filter()
+    drafts = [maker.request() for _ in range(REQUESTS)]
+    try:
+        data = encoded(text)
+        answers = asked.decisions(data, list(map(request_of, drafts)), BUDGET)
+        said = [] if "refused" in answers[0] else verdicts(data, drafts)
+    except (Mistake, NotModelled):
+        said = []
+    for draft, answer, one in zip(drafts, answers if said else [], said):
+        if (answer.get("verdict"), answer.get("name")) != one:
+            return Compared(text, len(said), (seed, text, draft, answer, one))
+    return Compared(text, len(said))

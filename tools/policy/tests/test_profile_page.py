@@ -4,7 +4,7 @@ import unittest
 
 import cases
 from policies import profile
-from policies.bounds import BUDGET, GREATEST_BUDGET, GREATEST_FILTER
+from policies.bounds import BUDGET, GREATEST_BUDGET, GREATEST_FILTER, GREATEST_VISITS, VISITS, Budget
 from policies.cel.attributes import TYPES
 from policies.cel.cost import Limits
 from policies.cel.typetext import type_text
@@ -75,7 +75,7 @@ class Page(unittest.TestCase):
     def test_examples_by_the_engine(self):
         wanted = list(examples())
         with Engine(ENGINE) as asked:
-            answers = asked.admissions([data for _, data, _ in wanted], BUDGET)
+            answers = asked.admissions([data for _, data, _ in wanted], Budget())
         for (text, _, answer), given in zip(wanted, answers):
             with self.subTest(text):
                 line = given.line.replace(":", "").split(" policies")[0]
@@ -101,7 +101,7 @@ class Page(unittest.TestCase):
                 wanted.append((name, 5))
                 filters.append(encoded(condition(f"{name} == {VALUES[kind]}")))
         with Engine(ENGINE) as asked:
-            answers = asked.admissions(filters, BUDGET)
+            answers = asked.admissions(filters, Budget())
         self.assertEqual([(name, answer.bound) for (name, _), answer in zip(wanted, answers)], wanted)
 
     def test_refusals(self):
@@ -112,6 +112,8 @@ class Page(unittest.TestCase):
         said = {row["Of a filter"]: int(row["Limit"]) for row in rows("Of a filter")}
         self.assertEqual(said["steps of all conditions, the budget"], BUDGET)
         self.assertEqual(said["the greatest budget that may be declared"], GREATEST_BUDGET)
+        self.assertEqual(said["visits of all conditions"], VISITS)
+        self.assertEqual(said["the most visits that may be declared"], GREATEST_VISITS)
         self.assertEqual(numbers(many_policies(said["policies"])), set())
         self.assertEqual(numbers(many_policies(said["policies"] + 1)), {8})
         levels = said["levels of rules"]

@@ -132,7 +132,7 @@ tests:
 - {name: last, request: {head: "GET / HTTP/1.1"}, expect: allow}
 """
 TOLD = [
-    "2:1: a file of tests has no field `budgt`: it has policy, filter, budget, facts, tests",
+    "2:1: a file of tests has no field `budgt`: it has policy, filter, budget, visits, facts, tests",
     "6:3: a test has a `request`, unless it expects the filter to be refused",
     "7:14: a request has no field `pth`",
     "7:31: headers are a mapping from names to texts, or to lists of texts",
@@ -200,6 +200,7 @@ class Mistakes(Room):
         for head, words in [
             ("policy: g.yaml", "g.yaml:1:17: one of these is expected"),
             ("policy: f.yaml\nbudget: x", "t.yaml:2:9: a budget is a number"),
+            ("policy: f.yaml\nvisits: 0", "t.yaml:2:9: visits are a number from 1 to 9223372036854775807"),
             ("policy: f.yaml\nfacts: [a]", "t.yaml:2:8: facts are a mapping"),
             ("filter: f", "t.yaml:2:9: `policy` is expected"),
             ("policy: {rules: {action: MAYBE}}", "t.yaml:1:26: one of these is expected"),
@@ -208,7 +209,7 @@ class Mistakes(Room):
                 self.file("t.yaml", head + "\ntests: [{request: {}, expect: allow}, {request: {}, expect: allow}]\n")
                 status, out, errors = self.ask("t.yaml")
                 self.assertEqual(status, 1)
-                self.assertIn(b"2 tests in 0.0 s: 0 passed, 0 failed, 2 not run", out)
+                self.assertRegex(out, rb"2 tests in \d+\.\d s: 0 passed, 0 failed, 2 not run")
                 self.assertEqual(errors.count(words), 1, errors)
 
     def test_names(self):

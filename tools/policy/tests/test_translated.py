@@ -1,6 +1,7 @@
 """What translated filters decide: Istio's policies and Envoy's regular expressions on requests, by the engine."""
 import unittest
 
+from policies.bounds import Budget
 from policies.engine import Engine, Request
 from policies.places import Source
 from policies.reading import contents
@@ -92,7 +93,7 @@ class Translated(unittest.TestCase):
             for name, wanted in DECIDED.items():
                 held = contents(Source(name, (HERE / "kinds" / name).read_bytes()))
                 requests = [Request(given, facts) for given, facts, _ in wanted]
-                answers = asked.decisions(held.filters[0].data, requests, 1_000_000)
+                answers = asked.decisions(held.filters[0].data, requests, Budget())
                 for (given, facts, passes), answer in zip(wanted, answers):
                     with self.subTest(name, head=given, facts=facts):
                         self.assertEqual(answer.get("verdict"), "allow" if passes else "deny", answer)

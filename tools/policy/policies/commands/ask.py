@@ -4,13 +4,13 @@ from typing import List
 
 from .. import engine, output, requirements
 from ..asked import WHEN, condition_filter
-from ..bounds import GREATEST_BUDGET
+from ..bounds import GREATEST_BUDGET, Budget
 from ..compare.drafts import shown
 from ..compare.judging import Judges, side_of
 from ..files import name_of
 from ..outcomes import NONE, matched_of, quoted, told
 from ..testfiles import filter_of_file
-from .common import DONE, MISTAKEN, NOT_DECIDED, UNUSABLE, add_engine, add_seconds, engine_of
+from .common import DONE, MISTAKEN, NOT_DECIDED, UNUSABLE, add_engine, add_seconds, add_visits, engine_of
 
 NAME = "ask"
 WRONG = "not decided: the solver takes this request for an answer, and the engine does not; please report the filter and the question"
@@ -37,6 +37,7 @@ def add(commands) -> None:
     parser.add_argument(WHEN, action="append", default=[], metavar="CEL", help=told_words)
     parser.add_argument("--filter", metavar="NAME", help="the filter to take of a file that holds several")
     add_seconds(parser)
+    add_visits(parser)
     add_engine(parser)
 
 
@@ -53,7 +54,7 @@ def run(words: argparse.Namespace) -> int:
     conditions = [side_of(WHEN, condition_filter(text)) for text in words.when]
     try:
         with engine_of(words) as asked:
-            return _asked(Judges(asked, [side], GREATEST_BUDGET), words, conditions)
+            return _asked(Judges(asked, [side], Budget(GREATEST_BUDGET, words.visits)), words, conditions)
     except engine.NoEngine as fault:
         output.tell(f"policy: {fault}")
         return UNUSABLE

@@ -11,7 +11,7 @@ from ..findings import NAMES, Finding, part_name
 from ..reportforms import FORMS, GITHUB, JSON, SARIF, TEXT, github_lines, json_lines, sarif_lines
 from ..version import version
 from ..watching import add_watch, watched
-from .common import DONE, MISTAKEN, MOST_TOLD, UNUSABLE, add_budget, add_engine, engine_of, in_order
+from .common import DONE, MISTAKEN, MOST_TOLD, UNUSABLE, add_budget, add_engine, budget_of, engine_of, in_order
 
 NAME = "check"
 ALONE = "--without-engine"
@@ -45,7 +45,7 @@ def run(words: argparse.Namespace) -> int:
 
 
 def _run(words: argparse.Namespace) -> int:
-    wanted = Wanted(words.budget, words.solver)
+    wanted = Wanted(budget_of(words), words.solver)
     try:
         if words.without_engine:
             reports = check_files(words.files, wanted, None)

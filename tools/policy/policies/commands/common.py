@@ -4,7 +4,7 @@ import os
 from typing import Callable, Iterable, List
 
 from .. import engine, output
-from ..bounds import BUDGET, GREATEST_BUDGET
+from ..bounds import BUDGET, GREATEST_BUDGET, GREATEST_VISITS, VISITS, Budget
 from ..findings import Finding
 from ..places import Mistake, Source
 
@@ -13,30 +13,44 @@ SECONDS = 20
 MOST_TOLD = 50
 
 
-def budget(text: str) -> int:
-    """A budget as the engine takes it."""
-    if not text.isascii() or not text.isdigit() or not 1 <= int(text) <= GREATEST_BUDGET:
-        raise argparse.ArgumentTypeError(f"a number from 1 to {GREATEST_BUDGET} is expected, not {text}")
-    return int(text)
+def number_up_to(most: int, what: str = "a number") -> Callable[[str], int]:
+    """The reader of a number from 1 to another on the command line."""
+
+    def number(text: str) -> int:
+        if not text.isascii() or not text.isdigit() or not 1 <= int(text) <= most:
+            raise argparse.ArgumentTypeError(f"{what} from 1 to {most} is expected, not {text}")
+        return int(text)
+
+    return number
+
+
+def add_steps(parser: argparse.ArgumentParser) -> None:
+    """Gives a command the option for the steps alone, if it asks no engine."""
+    words = f"what the conditions of a filter may cost together, in steps (default {BUDGET})"
+    parser.add_argument("--budget", type=number_up_to(GREATEST_BUDGET), default=BUDGET, metavar="N", help=words)
+
+
+def add_visits(parser: argparse.ArgumentParser) -> None:
+    """Gives a command the option for the visits."""
+    words = f"how many visits the engine's measuring of the conditions may take (default {VISITS})"
+    parser.add_argument("--visits", type=number_up_to(GREATEST_VISITS), default=VISITS, metavar="N", help=words)
 
 
 def add_budget(parser: argparse.ArgumentParser) -> None:
-    """Gives a command the option for the budget."""
-    words = f"what the conditions of a filter may cost together, in steps (default {BUDGET})"
-    parser.add_argument("--budget", type=budget, default=BUDGET, metavar="N", help=words)
+    """Gives a command the options for the budget of steps and visits."""
+    add_steps(parser)
+    add_visits(parser)
 
 
-def seconds(text: str) -> float:
-    """A time in seconds."""
-    if not text.isascii() or not text.isdigit() or not 1 <= int(text) <= 3600:
-        raise argparse.ArgumentTypeError(f"a number of seconds from 1 to 3600 is expected, not {text}")
-    return float(text)
+def budget_of(words: argparse.Namespace) -> Budget:
+    """The budget of a command's words."""
+    return Budget(words.budget, words.visits)
 
 
 def add_seconds(parser: argparse.ArgumentParser) -> None:
     """Gives a command the option for how long it may search."""
     words = f"how long each way to decide texts may take, of which there are up to three (default {SECONDS})"
-    parser.add_argument("--seconds", type=seconds, default=float(SECONDS), metavar="N", help=words)
+    parser.add_argument("--seconds", type=number_up_to(3600, "a number of seconds"), default=SECONDS, metavar="N", help=words)
 
 
 def add_engine(parser: argparse.ArgumentParser) -> None:

@@ -1,5 +1,7 @@
 """`policy diff`: whether two filters are equal, or which requests change their verdict between them."""
 import argparse
+import os
+from functools import partial
 from typing import List, NamedTuple
 
 from .. import engine, output, requirements
@@ -12,9 +14,12 @@ from ..outcomes import NONE, matched_of, message_of, quoted, told
 from ..places import Source
 from ..requests import request_log
 from ..testfiles import filter_of_file
-from .common import DONE, MISTAKEN, NOT_DECIDED, UNUSABLE, add_budget, add_engine, add_seconds, engine_of
+from ..workers import in_processes
+from .common import DONE, MISTAKEN, NOT_DECIDED, UNUSABLE, add_budget, add_engine, add_seconds, budget_of, engine_of
 
 NAME = "diff"
+# Two files of more bytes are read by two processes.
+LARGE = 50_000
 # So many requests that differ are shown.
 MOST_SHOWN = 10
 SOLVER_IS_MISSING = "python3-z3 is not installed"
@@ -53,17 +58,23 @@ def add(commands) -> None:
 
 def run(words: argparse.Namespace) -> int:
     """Prints the requests whose verdicts differ."""
-    sides = [side_of(name_of(file), filter_of_file(file, words.filter)) for file in (words.old, words.new)]
+    files = [words.old, words.new]
+    filters = in_processes(partial(filter_of_file, chosen=words.filter), files, 1 if _are_large(files) else len(files))
+    sides = [side_of(name_of(file), data) for file, data in zip(files, filters)]
     try:
         with engine_of(words) as asked:
-            judges = Judges(asked, sides, words.budget)
-            _check(judges)
+            judges = Judges(asked, sides, budget_of(words))
             answer = _of_log(judges, words) if words.requests else _of_filters(judges, words)
     except engine.NoEngine as fault:
         output.tell(f"policy: {fault}")
         return UNUSABLE
     output.write("".join(output.visible(line) + "\n" for line in answer.lines).encode(errors="replace"))
     return answer.status
+
+
+def _are_large(files: List[str]) -> bool:
+    """Whether files are read faster by several processes."""
+    return all(os.path.isfile(file) for file in files) and min(map(os.path.getsize, files)) > LARGE
 
 
 def _check(judges: Judges) -> None:
@@ -76,6 +87,7 @@ def _check(judges: Judges) -> None:
 
 def _of_log(judges: Judges, words: argparse.Namespace) -> Answer:
     """The requests of a log that differ."""
+    _check(judges)
     log = request_log(Source(name_of(words.requests), policy_text(words.requests)))
     both = decisions(judges.asked, judges.sides, [request for _, request, _ in log], judges.budget)
     lines: List[str] = []
@@ -90,11 +102,12 @@ def _of_log(judges: Judges, words: argparse.Namespace) -> Answer:
 def _of_filters(judges: Judges, words: argparse.Namespace) -> Answer:
     """What is decided of both filters; what is not, by samples."""
     if requirements.missing_solver():
+        _check(judges)
         return _of_samples(judges, words.policies, SOLVER_IS_MISSING)
     # it needs the solver's package
     from ..compare import deciding
 
-    found = deciding.decide(judges, words.policies, words.seconds)
+    found = deciding.decide(judges, words.policies, words.seconds, partial(_check, judges))
     if found.word == deciding.EQUAL:
         what = "the policy that matches" if words.policies else "the verdict"
         return Answer([f"equal: each request within the limits has the same answer, compared by {what}"], DONE)
@@ -118,7 +131,7 @@ def _count(found) -> str:
 
 def _of_samples(judges: Judges, with_policies: bool, why: str) -> Answer:
     """Those of the requests that the filters' rules can tell apart which differ, and why no more was decided."""
-    policies = [policy for side in judges.sides for part in side.parts for policy in policies_of(message_of(part))]
+    policies = [policy for side in judges.sides for policy in policies_of(message_of(side.whole))]
     made = candidates(policies)
     both = decisions(judges.asked, judges.sides, [request_of(draft) for draft in made.drafts], judges.budget)
     found = differences(made.drafts, both, with_policies)

@@ -7,7 +7,7 @@ from ..files import name_of, policy_text
 from ..findings import are_refused
 from ..places import Mistake, Source
 from ..reading import chosen, contents
-from .common import DONE, MISTAKEN, add_budget, add_output, tell_findings
+from .common import DONE, MISTAKEN, add_steps, add_output, tell_findings
 
 NAME = "encode"
 FORCE = "--even-if-refused"
@@ -23,7 +23,7 @@ def add(commands) -> None:
     )
     parser.add_argument("file", metavar="FILE", help="the filter as YAML or JSON; `-` is standard input")
     add_output(parser)
-    add_budget(parser)
+    add_steps(parser)
     parser.add_argument("--name", metavar="NAME", help="the filter to take of a file that holds several")
     parser.add_argument(
         "--dotted", action="store_true", help="attributes in conditions are variables of dotted names, not selects"

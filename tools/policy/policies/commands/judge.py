@@ -10,7 +10,7 @@ from ..files import name_of
 from ..outcomes import NONE, explained, matched_of, quoted, told
 from ..places import Mistake
 from ..testfiles import filter_of_file
-from .common import DONE, MISTAKEN, UNUSABLE, add_budget, add_engine, engine_of
+from .common import DONE, MISTAKEN, UNUSABLE, add_budget, add_engine, budget_of, engine_of
 
 NAME = "judge"
 # The statuses of `rbacd judge`.
@@ -48,7 +48,7 @@ def run(words: argparse.Namespace) -> int:
     request = _request(words)
     try:
         with engine_of(words) as asked:
-            [answer] = asked.decisions(data, [request], words.budget, explain=True)
+            [answer] = asked.decisions(data, [request], budget_of(words), explain=True)
     except engine.NoEngine as fault:
         output.tell(f"policy: {fault}")
         return UNUSABLE

@@ -3,13 +3,14 @@ import argparse
 from typing import Dict, List, NamedTuple, Optional, Tuple
 
 from .. import engine, output
+from ..bounds import Budget
 from ..compare.judging import Side, decisions, side_of
 from ..engine import Engine
 from ..files import name_of
 from ..outcomes import NONE, matched_of, quoted, told
 from ..records import Record, Recorded, Response, record_of
 from ..testfiles import filter_of_file
-from .common import DONE, MISTAKEN, UNUSABLE, add_budget, add_engine, engine_of
+from .common import DONE, MISTAKEN, UNUSABLE, add_budget, add_engine, budget_of, engine_of
 
 NAME = "replay"
 # So many requests are shown of each pair of answers.
@@ -62,14 +63,14 @@ def run(words: argparse.Namespace) -> int:
 def _replayed(asked: Engine, records: List[Record], name: str, new: Side, words: argparse.Namespace) -> int:
     """Judges all requests, and prints what changes."""
     for part in new.parts:
-        admission = asked.admission(part, words.budget)
+        admission = asked.admission(part, budget_of(words))
         if admission.number:
             raise engine.NoEngine(f"{new.name}: {admission.line}; `policy check` says why")
-    groups, unready = _groups(asked, records, name, words.budget)
+    groups, unready = _groups(asked, records, name, budget_of(words))
     changed: Dict[Tuple[str, str], List[Recorded]] = {}
     count = 0
     for group in groups:
-        both = decisions(asked, [Side(name, [group.old]), new], [one.request for one in group.requests], words.budget)
+        both = decisions(asked, [Side(name, group.old, [group.old]), new], [one.request for one in group.requests], budget_of(words))
         for one, old, answer in zip(group.requests, *both):
             count += 1
             if told(old) != told(answer) or words.policies and matched_of(old) != matched_of(answer):
@@ -79,7 +80,7 @@ def _replayed(asked: Engine, records: List[Record], name: str, new: Side, words:
     return MISTAKEN if changed else DONE
 
 
-def _groups(asked: Engine, records: List[Record], name: str, budget: int) -> Tuple[List[Group], int]:
+def _groups(asked: Engine, records: List[Record], name: str, budget: Budget) -> Tuple[List[Group], int]:
     """The requests by the filter that was in force, and how many came before there was one."""
     found: Dict[bytes, List[Recorded]] = {}
     unready = 0
@@ -94,7 +95,7 @@ def _groups(asked: Engine, records: List[Record], name: str, budget: int) -> Tup
     return [Group(*one) for one in found.items()], unready
 
 
-def _in_force(asked: Engine, responses: List[Response], name: str, budget: int) -> List[Optional[bytes]]:
+def _in_force(asked: Engine, responses: List[Response], name: str, budget: Budget) -> List[Optional[bytes]]:
     """The filter of a name after so many responses: one with a filter that is refused changes nothing."""
     found: List[Optional[bytes]] = [None]
     for response in responses:

@@ -1,11 +1,13 @@
 """Two filters decided for all requests: equal, or requests on which they differ, each confirmed by the engine."""
 import time
-from typing import Dict, Iterator, List, NamedTuple, Optional, Tuple
+from functools import partial
+from typing import Callable, Dict, Iterator, List, NamedTuple, Optional, Set, Tuple
 
 from ..meaning.children import worked
 from ..meaning.formulas import FALSE, TRUE, apart, both, either, no
 from ..meaning.questions import NotDecided, Reading, Search, mark, read, ways
 from ..outcomes import matched_of, message_of, told
+from .drafts import Draft
 from .judging import Difference, Judges, Side, side_of_some
 from .leaves import Policy, policies_of
 from .smaller import smaller
@@ -42,13 +44,15 @@ class Unconfirmed(NamedTuple):
     difference: Difference
 
 
-def decide(judges: Judges, with_policies: bool, seconds: float) -> Decision:
-    """Compares two filters that the engine admits, by each way to decide texts in turn, which may take so many seconds."""
+def decide(judges: Judges, with_policies: bool, seconds: float, check: Callable[[], None] = lambda: None) -> Decision:
+    """Compares two filters by each way to decide texts in turn, which may take so many seconds. Meanwhile it is checked that the
+    engine admits the filters."""
     pair = [policies_in(side) for side in judges.sides]
     reasons: List[str] = []
     for way in ways():
         comparison = Comparison(judges, pair, with_policies, time.monotonic() + seconds)
-        found, why = worked(lambda: comparison.differences(way), seconds)
+        found, why = worked(lambda: comparison.differences(way), seconds, check)
+        check = lambda: None  # noqa: E731
         wrong = [one.difference for one in found if isinstance(one, Unconfirmed)]
         if wrong:
             return Decision(UNCONFIRMED, wrong, way.name)
@@ -62,9 +66,8 @@ def decide(judges: Judges, with_policies: bool, seconds: float) -> Decision:
 
 def policies_in(side: Side) -> Policies:
     """The policies of a filter."""
-    messages = [message_of(part) for part in side.parts]
-    policies = [policy for message in messages for policy in policies_of(message)]
-    return Policies(messages[0].get("rules").scalar("action"), policies)
+    message = message_of(side.whole)
+    return Policies(message.get("rules").scalar("action"), policies_of(message))
 
 
 class Comparison:
@@ -74,8 +77,8 @@ class Comparison:
         self.judges, self.with_policies, self.until = judges, with_policies, until
         self.old, self.new = pair
         self.found: List[Difference] = []
-        # What is the same in both is read only if it decides a request that was found.
-        self.common: Dict[tuple, Policy] = {}
+        # The bytes of policies that are the same in both, which are read only if they decide a request that was found.
+        self.common: Set[bytes] = set()
         self.held: List[Policy] = []
 
     def differences(self, way) -> Iterator[object]:
@@ -89,20 +92,23 @@ class Comparison:
         while (yield from self._search(way)):
             pass
 
-    def _common(self, way) -> Dict[tuple, Policy]:
-        """The policies that are in both filters, by what they say."""
-        marks = [{mark(one): one for one in side.policies} for side in (self.old, self.new)]
-        found = {key: one for key, one in marks[0].items() if key in marks[1]}
-        others = [[one for key, one in side.items() if key not in found] for side in marks]
+    def _common(self, way) -> Set[bytes]:
+        """The policies that are in both filters, by their bytes, and those that say the same."""
+        sides = [{_bytes(one): one for one in side.policies} for side in (self.old, self.new)]
+        found = sides[0].keys() & sides[1].keys()
+        marks = [{mark(one): one for key, one in side.items() if key not in found} for side in sides]
+        same = marks[0].keys() & marks[1].keys()
+        found |= {_bytes(side[key]) for side in marks for key in same}
+        others = [[one for key, one in side.items() if key not in same] for side in marks]
         if sum(map(len, others)) > MOST_AT_ONCE:
             for one, other in _same_name(*others):
                 if _are_equal(way, one, other):
-                    found.update({mark(one): one, mark(other): other})
+                    found |= {_bytes(one), _bytes(other)}
         return found
 
     def _apart(self, side: Policies) -> List[Policy]:
         """The policies of a filter that the other does not have."""
-        return [one for one in side.policies if mark(one) not in self.common] if self.common else side.policies
+        return [one for one in side.policies if _bytes(one) not in self.common]
 
     def _search(self, way) -> Iterator[object]:
         """The requests that differ; whether to search again, with one more policy of both filters read."""
@@ -117,7 +123,7 @@ class Comparison:
             draft = search.next()
             if draft is None:
                 return False
-            [one] = self.judges.answers([draft])
+            one = self._by_few(draft, sides) or self._answer(draft)
             if not self._is_difference(one):
                 if self._hold(one):
                     return True
@@ -125,26 +131,38 @@ class Comparison:
                     yield Unconfirmed(one)
                     return False
                 continue
-            one = self._smaller(one, sides)
+            if not self._is_large():
+                one = smaller(one, self.judges.answers, partial(self._is_same_difference, one))
             self.found.append(one)
             yield one
             search.forbid(_same_pair(decided, one))
             search.hurry(SECONDS_A_PAIR)
         return False
 
-    def _smaller(self, one: Difference, sides: List[Policies]) -> Difference:
-        """The difference with the plainest request; of large filters the policies that are read are asked, then the whole ones."""
+    def _answer(self, draft: Draft) -> Difference:
+        """What both filters answer to a request."""
+        [one] = self.judges.answers([draft])
+        return one
 
-        def fits(other: Difference) -> bool:
-            return self._is_difference(other) and _deciders(other) == _deciders(one)
+    def _is_large(self) -> bool:
+        return len(self.old.policies) + len(self.new.policies) > MANY
 
-        if len(self.old.policies) + len(self.new.policies) <= MANY:
-            return smaller(one, self.judges.answers, fits)
+    def _by_few(self, draft: Draft, sides: List[Policies]) -> Optional[Difference]:
+        """Of large filters the difference with the plainest request: the policies that are read are asked, and the whole filters
+        once; None if these answer alike, or decide by other policies."""
+        if not self._is_large():
+            return None
         named = [[(policy.name, policy.policy) for policy in few.policies] for few in sides]
-        some = [side_of_some(side, policies) for side, policies in zip(self.judges.sides, named)]
-        found = smaller(one, self.judges._replace(sides=some).answers, fits)
-        [whole] = self.judges.answers([found.draft])
-        return whole if fits(whole) else one
+        few = self.judges._replace(sides=[side_of_some(side, some) for side, some in zip(self.judges.sides, named)])
+        [one] = few.answers([draft])
+        if not self._is_difference(one):
+            return None
+        whole = self._answer(smaller(one, few.answers, partial(self._is_same_difference, one)).draft)
+        return whole if self._is_same_difference(one, whole) else None
+
+    def _is_same_difference(self, one: Difference, other: Difference) -> bool:
+        """Whether the same policies decide another difference."""
+        return self._is_difference(other) and _deciders(other) == _deciders(one)
 
     def _differ(self, old: "Decided", new: "Decided"):
         """That the answers differ: the verdicts, or if it is asked the policies that match."""
@@ -161,7 +179,7 @@ class Comparison:
         """Whether a policy of both filters decides, which is read from now on."""
         for side, answer in ((self.old, one.old), (self.new, one.new)):
             policy = next((policy for policy in side.policies if policy.name == answer.get("name")), None)
-            if policy is not None and mark(policy) in self.common and policy not in self.held:
+            if policy is not None and _bytes(policy) in self.common and policy not in self.held:
                 self.held.append(policy)
                 return True
         return False
@@ -196,6 +214,11 @@ class Decided:
 def _is_judged(one: Difference) -> bool:
     """Whether both filters answered with a verdict."""
     return "verdict" in one.old and "verdict" in one.new
+
+
+def _bytes(policy: Policy) -> bytes:
+    """The bytes that a policy was read from."""
+    return bytes(policy.policy.raw)
 
 
 def _deciders(one: Difference) -> tuple:

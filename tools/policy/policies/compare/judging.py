@@ -1,6 +1,7 @@
 """Two filters judged on the same requests, and where they differ."""
 from typing import Dict, List, NamedTuple, Tuple
 
+from ..bounds import Budget
 from ..engine import Engine, Request, in_parallel
 from ..faults import MOST_POLICIES
 from ..messages import Message
@@ -13,9 +14,10 @@ AT_ONCE = 5_000
 
 
 class Side(NamedTuple):
-    """One of the filters: what it is called, and its bytes; in parts of as many policies as the engine takes."""
+    """One of the filters: what it is called, and its bytes, whole and in parts of as many policies as the engine takes."""
 
     name: str
+    whole: bytes
     parts: List[bytes]
 
 
@@ -33,15 +35,19 @@ def side_of(name: str, data: bytes) -> Side:
     rules = message.get("rules")
     policies = (rules.get("policies") or []) if rules is not None and rules.is_whole else []
     if len(policies) <= MOST_POLICIES:
-        return Side(name, [data])
+        return Side(name, data, [data])
+    for _, policy in policies:
+        # what was read is what is written
+        policy.wire = bytes(policy.raw)
     ordered = sorted(policies, key=lambda policy: policy[0].encode())
     starts = range(0, len(ordered), MOST_POLICIES)
-    return Side(name, [_with_policies(message, ordered[start : start + MOST_POLICIES]) for start in starts])
+    return Side(name, data, [_with_policies(message, ordered[start : start + MOST_POLICIES]) for start in starts])
 
 
 def side_of_some(side: Side, policies: list) -> Side:
     """A filter with some of its policies, each a name and a message."""
-    return Side(side.name, [_with_policies(message_of(side.parts[0]), policies)])
+    data = _with_policies(message_of(side.whole), policies)
+    return Side(side.name, data, [data])
 
 
 def _with_policies(message: Message, policies: list) -> bytes:
@@ -53,7 +59,7 @@ def _with_policies(message: Message, policies: list) -> bytes:
     return PLAIN.write(made)
 
 
-def decisions(asked: Engine, sides: List[Side], requests: List[Request], budget: int) -> List[List[dict]]:
+def decisions(asked: Engine, sides: List[Side], requests: List[Request], budget: Budget) -> List[List[dict]]:
     """What each filter answers to each request."""
     chunks = [requests[start : start + AT_ONCE] for start in range(0, len(requests), AT_ONCE)]
     # filters that are alike have parts in common
@@ -74,7 +80,7 @@ class Judges(NamedTuple):
 
     asked: Engine
     sides: List[Side]
-    budget: int
+    budget: Budget
 
     def answers(self, drafts: List[Draft]) -> List[Difference]:
         """What both filters answer to each request, equal or not."""

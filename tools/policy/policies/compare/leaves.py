@@ -1,5 +1,6 @@
 """The leaves of a filter's rules: which dimension of a request each tests, and how."""
 import ipaddress
+from functools import cached_property
 from typing import Dict, Iterator, List, NamedTuple, Optional, Tuple, Union
 
 from ..messages import PERMISSION, Message
@@ -91,23 +92,27 @@ def _header(matcher: Message) -> Rule:
     return Leaf(dimension, Span(span.scalar("start"), span.scalar("end")), invert, empty)
 
 
-class Policy(NamedTuple):
-    """A policy: its name, the rules of each side, and its condition's message, if it has one."""
+class Policy:
+    """A policy: its name, its message, and the rules of each side, which are made once they are asked for."""
 
-    name: str
-    permissions: Tuple[Rule, ...]
-    principals: Tuple[Rule, ...]
-    policy: Message
+    def __init__(self, name: str, policy: Message):
+        self.name, self.policy = name, policy
+
+    @cached_property
+    def permissions(self) -> Tuple[Rule, ...]:
+        """The rules of what is asked for."""
+        return tuple(map(rule_of, self.policy.get("permissions") or []))
+
+    @cached_property
+    def principals(self) -> Tuple[Rule, ...]:
+        """The rules of who asks."""
+        return tuple(map(rule_of, self.policy.get("principals") or []))
 
 
 def policies_of(message: Message) -> List[Policy]:
     """The policies of a filter that is admitted, by ascending name."""
     held: Dict[str, Message] = dict(message.get("rules").get("policies") or [])
-    found = []
-    for name in sorted(held, key=str.encode):
-        sides = [tuple(map(rule_of, held[name].get(side) or [])) for side in ("permissions", "principals")]
-        found.append(Policy(name, sides[0], sides[1], held[name]))
-    return found
+    return [Policy(name, held[name]) for name in sorted(held, key=str.encode)]
 
 
 def leaves_of(rules: Tuple[Rule, ...]) -> Iterator[Leaf]:

@@ -14,7 +14,7 @@ from ..conditions_typing import condition_of
 from ..meaning.automata import Automata
 from ..meaning.children import worked
 from ..meaning.domains import SERVER_NAME, header_text
-from ..meaning.formulas import FALSE, either, no
+from ..meaning.formulas import FALSE, either, is_false, no
 from ..meaning.questions import NotDecided, Reading, Search, read
 from ..meaning.terms import NotModelled
 from ..messages import Message
@@ -103,12 +103,12 @@ class Questions:
             if not any(one.operand == 0 and one.lint.name == NEVER for one in constants):
                 yield Remark(path, Lint(NEVER, NO_REQUEST))
             return
-        if not z3.is_false(before) and self._is_none(matches, no(before)):
+        if not is_false(before) and self._is_none(matches, no(before)):
             words = f'policy "{policy.name}" is never the first to match: earlier ones match whatever it matches'
             yield Remark(path, Lint(NEVER_FIRST, words))
             return
         others = either(*(self.reading.matches(one) for one in self.policies if one is not policy))
-        if not z3.is_false(others) and self._is_none(matches, no(others)):
+        if not is_false(others) and self._is_none(matches, no(others)):
             words = f'policy "{policy.name}" changes no verdict: others match whatever it matches'
             yield Remark(path, Lint(NEEDLESS_POLICY, words))
 

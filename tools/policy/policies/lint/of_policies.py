@@ -22,6 +22,10 @@ class _Side(NamedTuple):
 
 
 def _sides(policy: Message) -> List[_Side]:
+    return policy.kept("sides", lambda: _made_sides(policy))
+
+
+def _made_sides(policy: Message) -> List[_Side]:
     found = []
     for side in SIDES:
         rules = policy.get(side) or []

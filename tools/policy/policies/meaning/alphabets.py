@@ -4,7 +4,7 @@ from typing import Iterable, Iterator, List, Set
 from ..compare.texts import ENDS
 from .domains import TARGET_TEXT, domain, is_character
 from .readers import DIGITS, SIGNS
-from .terms import GREATER, LESS, RANGE, Sought
+from .sought import GREATER, LESS, RANGE, Sought
 
 # The first of these that is in no test is shown in requests.
 PLAIN = "xyzqwvkjabcdefghilmnoprstuXYZ0123456789-_~"

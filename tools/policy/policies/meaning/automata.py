@@ -1,25 +1,34 @@
 """Texts by automata: exact for tests of one text beside literals, for its length, and for two texts that are equal.
 
 Each test is a formula's variable. A model of the formulas says which tests hold; here texts are sought that answer so. If
-there is none, the model is refused by a formula that every request meets, and the next one is tried.
+there is none, the model is refused by a formula that every request meets, and the next one is tried. Texts that are compared
+in other ways are sought among likely ones. A model for which none is found is left out, which is named as a gap.
 """
 from typing import Dict, List, NamedTuple, Optional, Tuple
 
 import z3
 
 from ..compare.texts import EXACT
-from .domains import WHOLE, domain
+from .domains import PATH, QUERY, WHOLE, domain, part_of
 from .formulas import both, either, follows, no
 from .needed import TEST, Needed
 from .products import Asked, Product
+from .relations import Likely, Relation, Wanted
 from .readers import Steps
-from .terms import NotModelled, Sought, Term, Variable
+from .sought import Sought
+from .terms import NotModelled, Term, Variable
 
 Formulas = List[z3.BoolRef]
 Pair = Tuple[str, str]
+# The lengths of parts of texts, and how texts are compared.
+Measured = Dict[Tuple[str, str], int]
+Relations = Dict[Relation, bool]
 TWO_PARTS = "lengths of two parts of one text"
 SAME_LENGTH = "different texts of the same length"
 TWO_DOMAINS = "equal texts of two kinds"
+TWO_TEXTS = "two texts compared in another way than by =="
+# So many models are left out, and so many texts of each variable are tried first.
+MOST_LEFT_OUT, FIRST_TEXTS = 40, 6
 
 
 class Group(NamedTuple):
@@ -37,6 +46,10 @@ class Automata:
     def __init__(self):
         self.tests: Dict[Tuple[str, str, Sought], z3.BoolRef] = {}
         self.pairs: Dict[Pair, z3.BoolRef] = {}
+        self.relations: Dict[Relation, z3.BoolRef] = {}
+        # How many models were left out that may be right, and why.
+        self.left_out = 0
+        self.gap = ""
         self.lengths: Dict[Tuple[str, str], z3.ArithRef] = {}
         self.readers: Dict[Sought, Steps] = {}
         self.products: Dict[tuple, Product] = {}
@@ -48,17 +61,18 @@ class Automata:
         """That a text passes a test."""
         if sought.fold and sought.sought == sought.sought.swapcase():
             sought = sought._replace(fold=False)
-        self.readers.setdefault(sought, Steps(sought))
         key = (variable.name, variable.part, sought)
-        return self.tests.setdefault(key, z3.Bool(f"{TEST}{len(self.tests)}"))
+        if key not in self.tests:
+            self.readers.setdefault(sought, Steps(sought))
+            self.tests[key] = z3.Bool(f"{TEST}{len(self.tests)}")
+        return self.tests[key]
 
     def compare(self, kind: str, one: Term, other: Term) -> z3.BoolRef:
-        """That two whole texts are equal."""
-        for term in (one, other):
-            if kind != EXACT or not isinstance(term, Variable) or term.part != WHOLE:
-                raise NotModelled("two texts compared in another way than by ==")
-        first, second = sorted((one.name, other.name))
-        return self.pairs.setdefault((first, second), z3.Bool(f"{TEST}={len(self.pairs)}"))
+        """That two texts are compared so."""
+        if kind == EXACT and all(isinstance(term, Variable) and term.part == WHOLE for term in (one, other)):
+            first, second = sorted((one.name, other.name))
+            return self.pairs.setdefault((first, second), z3.Bool(f"{TEST}={len(self.pairs)}"))
+        return self.relations.setdefault(Relation(kind, one, other), z3.Bool(f"{TEST}{kind}{len(self.relations)}"))
 
     def length(self, variable: Variable) -> z3.ArithRef:
         """How many characters a text has."""
@@ -80,7 +94,17 @@ class Automata:
                 asked.setdefault(name, []).append(Asked(part, sought, _holds(model, formula)))
         measured = {key: _number(model, one) for key, one in self.lengths.items() if needed.has(one)}
         pairs = {pair: _holds(model, formula) for pair, formula in self.pairs.items() if needed.has(formula)}
+        relations = {one: _holds(model, formula) for one, formula in self.relations.items() if needed.has(formula)}
         self.texts = {}
+        if relations:
+            return self._likely(model, asked, measured, {**relations, **_as_relations(pairs)})
+        try:
+            return self._exact(asked, measured, pairs)
+        except NotModelled as gap:
+            return self._likely(model, asked, measured, _as_relations(pairs), str(gap))
+
+    def _exact(self, asked: Dict[str, List[Asked]], measured: Measured, pairs: Dict[Pair, bool]) -> Optional[Formulas]:
+        """As `refine`, where at most whole texts are compared; raises NotModelled."""
         if pairs:
             return Equalities(self, asked, measured, pairs).refine()
         found: Formulas = []
@@ -88,6 +112,49 @@ class Automata:
             lengths = {part: length for (known, part), length in measured.items() if known == name}
             found += self._one(name, asked.get(name, []), lengths)
         return found or None
+
+    def _likely(
+        self, model: z3.ModelRef, asked: Dict[str, List[Asked]], measured: Measured, relations: Relations, why: str = TWO_TEXTS
+    ) -> Optional[Formulas]:
+        """As `refine`: likely texts; if there are none, the model is left out."""
+        found = [one for name, tests in asked.items() for one in self._one(name, tests, {})]
+        found += [one for key, length in measured.items() for one in self._one(key[0], asked.get(key[0], []), {key[1]: length})]
+        if found:
+            return found
+
+        def first(name: str) -> List[str]:
+            product = self.product(name, asked.get(name, []))
+            texts = [product.text(length) for length in product.possible[:FIRST_TEXTS]]
+            parts = {part: length for (known, part), length in measured.items() if known == name}
+            return texts + self._of_lengths(name, asked.get(name, []), parts)
+
+        texts = Likely(Wanted(asked, measured, list(relations.items())), first, lambda number: _number(model, number)).texts()
+        self.texts.update(texts)
+        if texts:
+            return None
+        self.gap, self.left_out = why, self.left_out + 1
+        if self.left_out > MOST_LEFT_OUT:
+            raise NotModelled(why)
+        return [self._another(model, asked, measured, relations)]
+
+    def _of_lengths(self, name: str, asked: List[Asked], lengths: Dict[str, int]) -> List[str]:
+        """Texts whose parts have some lengths, each by itself, and of a target those of its path and its query together."""
+        texts = {part: self.product(name, asked, part).text(length) for part, length in lengths.items()}
+        both_parts = [part_of(texts[part], part) for part in (PATH, QUERY) if part in texts]
+        return [*texts.values(), "?".join(both_parts)]
+
+    def _another(self, model: z3.ModelRef, asked: Dict[str, List[Asked]], measured: Measured, relations: Relations) -> z3.BoolRef:
+        """That some test, relation, length or number is another than in the model."""
+        names = {name for one in relations for name in one.variables()} | {name for name, _ in measured}
+        tests = [no(self.formula(name, asked[name])) for name in names if name in asked]
+        others = [no(self._relation(one)) if holds else self._relation(one) for one, holds in relations.items()]
+        lengths = [self.lengths[key] != length for key, length in measured.items()]
+        numbers = [number != _number(model, number) for one in relations for number in one.numbers()]
+        return either(*tests, *others, *lengths, *numbers)
+
+    def _relation(self, one: Relation) -> z3.BoolRef:
+        """The formula that two texts are compared so."""
+        return self.relations[one] if one in self.relations else self.pairs[one.one.name, one.other.name]
 
     def values(self, model: z3.ModelRef) -> Dict[str, str]:
         """The texts of the last model that was not refused."""
@@ -135,7 +202,7 @@ class Automata:
 class Equalities:
     """Texts that are compared with each other: equal ones are one text, and others get different ones."""
 
-    def __init__(self, automata: Automata, asked: Dict[str, List[Asked]], measured: Dict[Tuple[str, str], int], pairs: Dict[Pair, bool]):
+    def __init__(self, automata: Automata, asked: Dict[str, List[Asked]], measured: Measured, pairs: Dict[Pair, bool]):
         self.automata, self.asked, self.measured, self.pairs = automata, asked, measured, pairs
         self.leaders: Dict[str, str] = {}
         for (one, other), are_equal in pairs.items():
@@ -203,6 +270,10 @@ class Equalities:
         tests = [no(self.automata.formula(name, asked)) for name, asked in self.asked.items() if asked]
         lengths = [self.automata.lengths[key] != length for key, length in self.measured.items()]
         return either(*tests, *self._other_pairs(), *lengths)
+
+
+def _as_relations(pairs: Dict[Pair, bool]) -> Relations:
+    return {Relation(EXACT, Variable(one), Variable(other)): are_equal for (one, other), are_equal in pairs.items()}
 
 
 def _holds(model: z3.ModelRef, formula: z3.BoolRef) -> bool:

@@ -28,8 +28,9 @@ class _End(NamedTuple):
     why: str
 
 
-def worked(work: Callable[[], Iterator[object]], seconds: float) -> Done:
-    """What the work yields in at most so many seconds."""
+def worked(work: Callable[[], Iterator[object]], seconds: float, meanwhile: Callable[[], None] = lambda: None) -> Done:
+    """What the work yields in at most so many seconds; something else is done meanwhile."""
+    until = time.monotonic() + seconds + GRACE
     reads, writes = os.pipe()
     child = os.fork()
     if not child:
@@ -39,8 +40,9 @@ def worked(work: Callable[[], Iterator[object]], seconds: float) -> Done:
         os._exit(0)
     os.close(writes)
     try:
+        meanwhile()
         with os.fdopen(reads, "rb", buffering=0) as file:
-            return _collected(file, time.monotonic() + seconds + GRACE)
+            return _collected(file, until)
     finally:
         _end(child)
 
@@ -60,20 +62,24 @@ def _work(work: Callable[[], Iterator[object]], file: BinaryIO) -> None:
 
 
 def _collected(file, until: float) -> Done:
-    """What is read until the end, or until the time is over."""
+    """What is read until the end, or until the time is over and nothing is there."""
     data = b""
     while True:
-        left = until - time.monotonic()
-        if left <= 0 or not select.select([file], [], [], left)[0]:
-            return Done(_objects(data), "no answer in time")
+        if not select.select([file], [], [], max(0.0, until - time.monotonic()))[0]:
+            return _done(data, "no answer in time")
         part = file.read(65536)
         if part:
             data += part
             continue
-        found = _objects(data)
-        if found and isinstance(found[-1], _End):
-            return Done(found[:-1], found[-1].why)
-        return Done(found, "the process that decides ended")
+        return _done(data, "the process that decides ended")
+
+
+def _done(data: bytes, why: str) -> Done:
+    """What some bytes say was found; why there is no more, if they do not say it."""
+    found = _objects(data)
+    if found and isinstance(found[-1], _End):
+        return Done(found[:-1], found[-1].why)
+    return Done(found, why)
 
 
 def _objects(data: bytes) -> List[object]:

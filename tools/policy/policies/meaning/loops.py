@@ -10,7 +10,7 @@ import z3
 
 from ..cel.fold import fold
 from ..cel.tree import Comprehension
-from .formulas import either
+from .formulas import either, is_true
 from .terms import NotModelled
 from .values import HEADERS, INT, MAP, Possible, Value, choice, text_of
 
@@ -86,7 +86,7 @@ class Loops:
         accumulator = self.conditions.of(node.accu_init, scope)
         for header in self.request.headers():
             after = self._turn(node, scope, accumulator, (text_of(header.name), text_of(header.text)))
-            accumulator = after if z3.is_true(header.present) else choice(header.present, after, accumulator)
+            accumulator = after if is_true(header.present) else choice(header.present, after, accumulator)
         self.depth -= 1
         return self.conditions.of(node.result, {**scope, node.accu_var: accumulator})
 

@@ -8,7 +8,8 @@ import z3
 
 from ..compare.texts import CONTAINS, EXACT, PREFIX, SUFFIX
 from .formulas import FALSE, alike, both, either, no
-from .terms import LESS, Decimal, NotModelled, compared, joined, size_of
+from .sought import LESS
+from .terms import Decimal, NotModelled, compared, joined, size_of
 from .values import BOOL, HEADERS, INT, LIST, MAP, NUMBER_KINDS, STRING, UINT, Possible, Value, bool_of, list_of, text_of
 
 BOUNDS = {INT: (-(2**63), 2**63 - 1), UINT: (0, 2**64 - 1)}

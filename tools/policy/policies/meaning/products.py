@@ -5,7 +5,8 @@ from typing import Dict, List, NamedTuple, Optional, Tuple
 from .alphabets import SPACES, alphabet
 from .domains import PATH, QUERY, TARGET_TEXT, WHOLE, domain
 from .readers import Steps
-from .terms import NotModelled, Sought
+from .sought import Sought
+from .terms import NotModelled
 
 # So many states of one text are looked at before the search ends without an answer.
 MOST_STATES = 400_000

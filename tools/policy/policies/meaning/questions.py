@@ -107,7 +107,8 @@ class Search:
     def __init__(self, reading: Reading, formulas: List[z3.BoolRef], until: float):
         self.reading, self.until = reading, until
         self.formulas = [*formulas, *reading.request.limits()]
-        self.solver = z3.Solver()
+        # for many small questions the other solver takes ten times as long
+        self.solver = z3.SimpleSolver() if isinstance(reading.way, Automata) else z3.Solver()
         self.solver.add(*self.formulas, *reading.lemmas)
         # Why requests were left out that could meet the formulas, or nothing.
         self.narrowed = ""
@@ -138,7 +139,7 @@ class Search:
     def next(self) -> Optional[Draft]:
         """A request, or None if there is surely none; raises NotDecided and NotModelled."""
         found = self._found()
-        gaps = [*self.reading.left_out(), *([self.narrowed] if self.narrowed else [])]
+        gaps = [*self.reading.left_out(), *filter(None, (self.narrowed, self.reading.way.gap))]
         if found is None and gaps:
             raise NotDecided("; ".join(gaps))
         return found

@@ -2,7 +2,7 @@
 from typing import Dict, Tuple, Union
 
 from ..compare.texts import Reader, TextTest
-from .terms import GREATER, LESS, RANGE, Sought
+from .sought import GREATER, LESS, RANGE, Sought
 
 DIGITS, SIGNS = "0123456789", "+-"
 # More digits than a number of 64 bits has are counted up to here.

@@ -23,7 +23,8 @@ from .domains import (
     other_text,
 )
 from .formulas import FALSE, TRUE, both, chosen, count_of, follows, no
-from .terms import EMPTY, Literal, Sought, Term, Variable, compared, passes
+from .sought import Sought
+from .terms import EMPTY, Literal, Term, Variable, compared, passes
 
 NUMBERS = {"source.port": 65535, "destination.port": 65535, "connection.id": 2**64 - 1}
 MTLS = "connection.mtls"
@@ -86,16 +87,21 @@ class RequestModel:
 
     def present(self, name: str) -> z3.BoolRef:
         """That an optional part is present."""
-        return self.has.setdefault(name, z3.Bool("has " + name))
+        if name not in self.has:
+            self.has[name] = z3.Bool("has " + name)
+        return self.has[name]
 
     def number(self, name: str) -> z3.ArithRef:
         """The number of a fact."""
-        return self.numbers.setdefault(name, z3.Int(name))
+        if name not in self.numbers:
+            self.numbers[name] = z3.Int(name)
+        return self.numbers[name]
 
     def address(self, name: str) -> Address:
         """The address of a fact."""
-        made = Address(z3.Bool("v6 " + name), z3.BitVec("bits " + name, ADDRESS_BITS))
-        return self.addresses.setdefault(name, made)
+        if name not in self.addresses:
+            self.addresses[name] = Address(z3.Bool("v6 " + name), z3.BitVec("bits " + name, ADDRESS_BITS))
+        return self.addresses[name]
 
     def authority(self) -> Header:
         """The Host line, which HTTP/1.1 requires."""

@@ -8,7 +8,8 @@ from ..compare.spaces import AUTHORITY, METHOD, PEER, TARGET, Presence, Probe, S
 from .domains import PATH, SCHEME_TEXT, SERVER_NAME
 from .formulas import FALSE, TRUE, both, chosen, either, no
 from .request import ADDRESS_BITS, MTLS, NUMBERS, Header, RequestModel
-from .terms import EMPTY, RANGE, Literal, Sought, Term, Variable, passes
+from .sought import RANGE, Sought
+from .terms import EMPTY, Literal, Term, Variable, passes
 
 # The names of a peer, the one that counts first.
 PEER_NAMES = (

@@ -4,10 +4,12 @@ from typing import Dict, List, Optional, Set
 import z3
 
 from ..compare.texts import CONTAINS, EXACT, PREFIX, SUFFIX
+from .decimals import size
 from .domains import PATH, QUERY, TARGET_TEXT, WHOLE, domain, is_character
 from .formulas import chosen, either, no
+from .sought import LESS, RANGE, Sought
 from .strings import characters, concatenation, folded, numbers, string, text_of
-from .terms import LESS, RANGE, Chosen, Joined, Literal, NotModelled, Sought, Term, Variable
+from .terms import Chosen, Decimal, Joined, Literal, Term, Variable
 
 Formulas = List[z3.BoolRef]
 # The rest of a target after its path, and what is after its query.
@@ -18,6 +20,7 @@ class Sequences:
     """Texts as sequences. Which characters a text may have is said only after a model broke it."""
 
     name = "z3"
+    gap = ""
 
     def __init__(self):
         self.parts: Dict[str, Set[str]] = {}
@@ -33,8 +36,9 @@ class Sequences:
             return z3.Concat(*map(self.term, term.parts))
         if isinstance(term, Chosen):
             return z3.If(term.test, self.term(term.one), self.term(term.other))
-        if not isinstance(term, Variable):
-            raise NotModelled("`string` of a number joined with a text")
+        if isinstance(term, Decimal):
+            digits = z3.IntToStr(size(term.number))
+            return z3.If(term.number < 0, z3.Concat(string("-"), digits), digits)
         self.parts.setdefault(term.name, set()).add(term.part)
         return _variable(term.name, term.part)
 

@@ -9,7 +9,8 @@ import z3
 
 from ..compare.texts import lower_ascii
 from .alphabets import LAST_ODD
-from .terms import NotModelled, Sought
+from .sought import Sought
+from .terms import NotModelled
 
 LAST_POINT = 0x2FFFF
 ESCAPE = re.compile(r"\\{1,2}u\{([0-9a-f:;<=>?]+)\}")

@@ -1,18 +1,17 @@
 """Texts as terms over variables, and tests of them.
 
 A way to decide texts (`Automata`, `Sequences`) has `test` for a variable beside a literal, `compare` for two terms, `length`,
-`domain`, `refine` and `values`. What is decided without it is decided here.
+`domain`, `refine` and `values`, and `gap` says why it may leave something out. What is decided without it is decided here.
 """
 from typing import NamedTuple, Tuple, Union
 
 import z3
 
-from ..compare.texts import CONTAINS, EXACT, PREFIX, SUFFIX, lower_ascii
+from ..compare.texts import EXACT
+from . import decimals
 from .domains import WHOLE
-from .formulas import FALSE, TRUE, chosen
-
-LESS, GREATER, RANGE = "less", "greater", "range"
-OF_PARTS = (PREFIX, SUFFIX, CONTAINS)
+from .formulas import TRUE, chosen
+from .sought import GREATER, LESS, OF_PARTS, RANGE, Sought
 
 
 class NotModelled(Exception):
@@ -38,10 +37,17 @@ class Joined(NamedTuple):
     parts: Tuple["Term", ...]
 
 
-class Decimal(NamedTuple):
+class Decimal:
     """A number as `string` writes it."""
 
-    number: object
+    def __init__(self, number: z3.ArithRef):
+        self.number = number
+
+    def __eq__(self, other: object) -> bool:
+        return isinstance(other, Decimal) and self.number.eq(other.number)
+
+    def __hash__(self) -> int:
+        return self.number.hash()
 
 
 class Chosen(NamedTuple):
@@ -56,27 +62,6 @@ Term = Union[Literal, Variable, Joined, Decimal, Chosen]
 EMPTY = Literal("")
 
 
-class Sought(NamedTuple):
-    """A test of one text: a kind, the text or the two bounds that are sought, and whether A to Z count as a to z."""
-
-    kind: str
-    sought: object
-    fold: bool = False
-
-    def passes(self, text: str) -> bool:
-        """Whether a text that is known passes."""
-        if self.kind == RANGE:
-            digits = text[1:] if text[:1] in ("+", "-") else text
-            return digits.isascii() and digits.isdigit() and self.sought[0] <= int(text) < self.sought[1]
-        sought = lower_ascii(self.sought) if self.fold else self.sought
-        text = lower_ascii(text) if self.fold else text
-        if self.kind == EXACT:
-            return text == sought
-        if self.kind in OF_PARTS:
-            return {PREFIX: text.startswith, SUFFIX: text.endswith, CONTAINS: text.__contains__}[self.kind](sought)
-        return text < sought if self.kind == LESS else text > sought
-
-
 def passes(way, term: Term, sought: Sought) -> z3.BoolRef:
     """That a term passes a test."""
     if isinstance(term, Chosen):
@@ -88,21 +73,10 @@ def passes(way, term: Term, sought: Sought) -> z3.BoolRef:
     if isinstance(term, Variable):
         return way.test(term, sought)
     if isinstance(term, Decimal):
-        return _of_decimal(term, sought)
+        return decimals.is_written(term.number, sought)
     if sought.kind == RANGE or sought.fold:
         raise NotModelled("a range or ignore_case of a text made of others")
     return way.compare(sought.kind, term, Literal(sought.sought))
-
-
-def _of_decimal(term: Decimal, sought: Sought) -> z3.BoolRef:
-    """That a number is written as a text."""
-    if sought.kind != EXACT:
-        raise NotModelled("a test of `string` of a number beside ==")
-    text = sought.sought
-    digits = text[1:] if text[:1] == "-" else text
-    if not (digits.isascii() and digits.isdigit() and str(int(text)) == text):
-        return FALSE
-    return term.number == int(text)
 
 
 def compared(way, kind: str, one: Term, other: Term) -> z3.BoolRef:
@@ -115,8 +89,8 @@ def compared(way, kind: str, one: Term, other: Term) -> z3.BoolRef:
         return passes(way, one, Sought(kind, other.text))
     if isinstance(one, Literal) and kind in (EXACT, LESS):
         return passes(way, other, Sought(EXACT if kind == EXACT else GREATER, one.text))
-    if isinstance(one, Decimal) or isinstance(other, Decimal):
-        raise NotModelled("`string` of a number beside another text")
+    if isinstance(one, Decimal) and isinstance(other, Decimal) and kind == EXACT:
+        return one.number == other.number
     if one == other:
         return z3.BoolVal(kind != LESS)
     return way.compare(kind, one, other)
@@ -131,7 +105,7 @@ def size_of(way, term: Term) -> z3.ArithRef:
     if isinstance(term, Joined):
         return z3.Sum([size_of(way, one) for one in term.parts])
     if isinstance(term, Decimal):
-        raise NotModelled("the size of `string` of a number")
+        return decimals.length(term.number)
     return way.length(term)
 
 
@@ -145,8 +119,6 @@ def joined(one: Term, other: Term) -> Term:
         return Chosen(other.test, joined(one, other.one), joined(one, other.other))
     if EMPTY in (one, other):
         return other if one == EMPTY else one
-    if isinstance(one, Decimal) or isinstance(other, Decimal):
-        raise NotModelled("`string` of a number joined with a text")
     return Joined(_parts(one) + _parts(other))
 
 

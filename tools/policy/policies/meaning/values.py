@@ -1,5 +1,5 @@
 """Values of conditions: what a part of a condition is, and when it is an error instead."""
-from typing import List, NamedTuple
+from typing import Dict, List, NamedTuple
 
 import z3
 
@@ -47,10 +47,24 @@ def text_of(term: Term, error=FALSE) -> Value:
 
 
 def list_of(possible: List[Possible], error=FALSE) -> Value:
-    """Possible lists as a value."""
+    """Possible lists as a value; of many, those of one length become one."""
+    if len(possible) > MOST_WAYS:
+        possible = _by_length(possible)
     if len(possible) > MOST_WAYS:
         raise NotModelled("a list of many possible lengths")
     return Value(LIST, possible, error)
+
+
+def _by_length(possible: List[Possible]) -> List[Possible]:
+    """For each length the list that is the one that holds."""
+    found: Dict[int, Possible] = {}
+    for one in possible:
+        other = found.get(len(one.elements))
+        if other is not None:
+            elements = [choice(one.test, *pair) for pair in zip(one.elements, other.elements)]
+            one = Possible(either(one.test, other.test), elements)
+        found[len(one.elements)] = one
+    return list(found.values())
 
 
 def choice(test, one: Value, other: Value) -> Value:
