@@ -214,6 +214,16 @@ class Decided(Filters):
             self.assertEqual(status_, status, lines)
             self.assertIn("bytes", lines[-1])
 
+    def test_refused(self):
+        """A filter that the engine refuses is named, also one without rules."""
+        self.file("good.yaml", POLICY)
+        for text, number in (("{}", "4 Missing"), ("rules: {action: 7}", "5 OutOfRange"), (POLICY.replace("any: true", "metadata: {}"), "6 Unsupported")):
+            self.file("bad.yaml", text)
+            for words in (("good.yaml", "bad.yaml"), ("bad.yaml", "good.yaml"), ("bad.yaml", "bad.yaml")):
+                found = self.run_here("diff", "--engine", ENGINE, *words)
+                told = f"policy: bad.yaml: refused: {number}; `policy check` says why\n"
+                self.assertEqual(found, (2, b"", told), (text, words))
+
     def test_unconfirmed(self):
         """A request that the engine does not confirm is told."""
         from policies.compare import deciding

@@ -51,6 +51,19 @@ class Silenced(Room):
         self.assertEqual([place for place, _ in found], ["f.yaml:8:1: "])
         self.assertTrue(found[0][1].startswith("there is no note of the name nothing-like-that: they are no-prefix-len, "))
 
+    def test_unused(self):
+        """Comments that silence nothing are silenced as other notes are, also by themselves."""
+        plain = POLICY.replace("any: true", "destination_port: 1", 1)
+        own = plain + "# policy: ignore any-any, unused-ignore\n"
+        self.assertEqual(self.notes(own), [])
+        line = next(line for line in plain.splitlines() if "destination_port" in line)
+        indent = " " * (len(line) - len(line.lstrip()))
+        before = f"{indent}# policy: ignore unused-ignore\n"
+        text = plain.replace(line, f"{before}{line} # policy: ignore host-bits")
+        self.assertEqual(self.notes(text), [])
+        text = plain.replace(line, f"{line} # policy: ignore host-bits")
+        self.assertEqual([words for _, words in self.notes(text)], ["there is no note host-bits here to silence [unused-ignore]"])
+
     def test_texts(self):
         """A text of YAML is no comment."""
         text = RULE.replace("%s", "ALLOW", 1) % "{destination_ip: {address_prefix: 10.0.0.1}}"

@@ -67,7 +67,8 @@ def decide(judges: Judges, with_policies: bool, seconds: float, check: Callable[
 def policies_in(side: Side) -> Policies:
     """The policies of a filter."""
     message = message_of(side.whole)
-    return Policies(message.get("rules").scalar("action"), policies_of(message))
+    rules = message.get("rules")
+    return Policies(rules.scalar("action") if rules is not None else ALLOW, policies_of(message))
 
 
 class Comparison:

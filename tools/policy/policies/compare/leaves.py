@@ -110,8 +110,9 @@ class Policy:
 
 
 def policies_of(message: Message) -> List[Policy]:
-    """The policies of a filter that is admitted, by ascending name."""
-    held: Dict[str, Message] = dict(message.get("rules").get("policies") or [])
+    """The policies of a filter, by ascending name; none if it has no rules, which the engine refuses."""
+    rules = message.get("rules")
+    held: Dict[str, Message] = dict((rules.get("policies") if rules is not None else None) or [])
     return [Policy(name, held[name]) for name in sorted(held, key=str.encode)]
 
 

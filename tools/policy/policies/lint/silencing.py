@@ -50,15 +50,25 @@ class Silencing:
 
     def unused(self, is_solved: bool = True) -> List[Finding]:
         """Notes on names in comments that silence nothing, once all findings of the file were asked for; of those that only a
-        solver may find, if it was asked."""
+        solver may find, if it was asked. A comment can silence them too, also those on itself."""
         found = []
         for (place, name), is_used in self.used.items():
             if name not in MEANINGS:
-                known = ", ".join(known for known in MEANINGS if known != UNUSED)
-                found.append(Finding(NOTE, f"there is no note of the name {name}: they are {known}", place, (), UNUSED))
-            elif not is_used and (is_solved or name not in SOLVED):
-                found.append(Finding(NOTE, f"there is no note {name} here to silence", place, (), UNUSED))
-        return found
+                found.append(_unused(f"there is no note of the name {name}: they are {', '.join(MEANINGS)}", place))
+            elif not is_used and name != UNUSED and (is_solved or name not in SOLVED):
+                found.append(_unused(f"there is no note {name} here to silence", place))
+        names = {one.place: one.names for one in self.ignores}
+        own = {one.place for one in found if UNUSED in names[one.place]}
+        self.used.update({(place, UNUSED): True for place in own})
+        kept = [one for one in found if not self._silences(one) and one.place not in own]
+        idle = [place for (place, name), is_used in self.used.items() if name == UNUSED and not is_used]
+        # whether such a comment is needed is known only if the solver was asked
+        return kept + [_unused(f"there is no note {UNUSED} here to silence", place) for place in idle if is_solved]
+
+
+def _unused(words: str, place: Place) -> Finding:
+    """A note on a name in a comment."""
+    return Finding(NOTE, words, place, (), UNUSED)
 
 
 def _ignores(source: Source) -> List[Ignore]:
