@@ -69,6 +69,8 @@ EQUAL_PAIRS = [
     ('{"a": 1, "a": 1}["a"] == 1', "false"),
     # an error of one side, decided by the other
     ('request.headers["a"] == "b" || true', "true"),
+    # a query is after a path and its sign
+    ("size(request.query) < 4095", "true"),
     # no part of the query is in the path
     ('request.url_path.contains("?")', "false"),
     ('request.path.startsWith("/a?b")', 'request.url_path == "/a" && request.query.startsWith("b") && request.path.startsWith("/a?")'),
@@ -103,6 +105,7 @@ DIFFERENT_PAIRS = [
     ('request.path.startsWith("/abc") && size(request.path) < 100', 'request.path.startsWith("/abc") && size(request.path) < 101'),
     ("source.port % 7 == 3 && source.port > 1000", "source.port % 7 == 3 && source.port > 1010"),
     ("request.headers.size() < 20", "request.headers.size() < 21"),
+    ("size(request.query) < 4094", "true"),
     ("request.headers.all(k, v, size(v) < 40)", "request.headers.all(k, v, size(v) < 41)"),
     ('request.headers["x-a"] + request.headers["x-b"] == "abcd"', 'request.headers["x-a"] == "ab" && request.headers["x-b"] == "cd"'),
     (

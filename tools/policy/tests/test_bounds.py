@@ -1,8 +1,8 @@
 """The bounds of the worked cases and rows, and why the others are refused, as `rbacd check` prints them.
 
-The program is that of RBACD, or the proved one where it is built (`bin/rbacd` builds it); where UNPROVED is set, the
-sources as `rt try` compiles them, without a proof. Each bound is worked out by hand from the charges of the instructions and the sizes of what they work on, with
-the greatest limits.
+The program is that of RBACD, or the proved one where it is built (`bin/rbacd` builds it). Where UNPROVED is set and RBACD is
+not, it is the sources as `rt try` compiles them, without a proof. Each bound is worked out by hand from the charges of the
+instructions and the sizes of what they work on, with the greatest limits.
 """
 import os
 import pathlib
@@ -16,7 +16,7 @@ import cases
 from support import ENGINE, NO_ENGINE, TOP, condition, encoded, numbers
 
 CRATE = TOP / "crates" / "rbacd"
-UNPROVED = bool(os.environ.get("UNPROVED"))
+UNPROVED = bool(os.environ.get("UNPROVED")) and not os.environ.get("RBACD")
 
 # The bound of each condition that is admitted.
 BOUNDS = {

@@ -9,7 +9,7 @@ from typing import Dict, List, NamedTuple, Optional, Tuple
 import z3
 
 from ..compare.texts import EXACT
-from .domains import PATH, QUERY, WHOLE, domain, part_of
+from .domains import PATH, QUERY, WHOLE, domain, longest, part_of
 from .formulas import both, either, follows, no
 from .needed import TEST, Needed
 from .products import Asked, Product
@@ -81,7 +81,7 @@ class Automata:
 
     def domain(self) -> Formulas:
         """What holds of all texts."""
-        return [both(one >= 0, one <= domain(name).longest) for (name, _), one in self.lengths.items()]
+        return [both(one >= 0, one <= longest(*key)) for key, one in self.lengths.items()]
 
     # --- models --------------------------------------------------------------------------------------------------
 

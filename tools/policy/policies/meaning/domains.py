@@ -47,6 +47,11 @@ def domain(variable: str) -> Domain:
     return OF_HEADERS if variable.startswith(("h:", "v:")) else OF_TEXTS.get(variable, OF_FACTS)
 
 
+def longest(variable: str, part: str) -> int:
+    """How many characters a variable's text, or a part of it, has at most: a query is after a path and its sign."""
+    return domain(variable).longest - (len("/?") if part == QUERY else 0)
+
+
 def is_character(variable: str, character: str) -> bool:
     """Whether a variable's text may have a character somewhere."""
     return not "\ud800" <= character <= "\udfff" and domain(variable).is_allowed(character)
