@@ -13,13 +13,16 @@ from .version import version
 DEEPEST_RECURSION = 20_000
 INTERRUPTED = 130
 COMMANDS = (check, test, judge, ask, diff, replay, join, fmt, encode, decode, wrap, generate)
+# Their status 1 is an answer, which a mistake is not.
+ANSWERING = (ask, diff, replay)
 
 DESCRIPTION = """Envoy RBAC policies as YAML, with conditions as texts of CEL, to filter bytes and back.
 This tool is no part of what is proved: the engine reads every filter for itself."""
 STATUSES = """status: 0 done; 1 a mistake in a file, told with its place, a filter that the engine refuses, a test that
 fails, a verdict that changes, a request that was asked for; 2 a mistake on the command line, a file that cannot be read
-or written, a package or an engine that is missing; 3 a question that was not decided, or a request that `judge` denies;
-4 a head with a fault. Where the status is not 0, no bytes are written."""
+or written, a package or an engine that is missing, and for ask, diff and replay also a mistake in a file or a filter that is
+refused; 3 a question that was not decided, or a request that `judge` denies; 4 a head with a fault. Where the status is not 0,
+no bytes are written."""
 
 
 def parser_of_words() -> argparse.ArgumentParser:
@@ -63,11 +66,12 @@ def main(arguments: Optional[List[str]] = None) -> int:
 
 def _run(arguments: Optional[List[str]]) -> int:
     words = words_of(arguments)
+    command = next(command for command in COMMANDS if command.NAME == words.command)
     try:
-        return next(command for command in COMMANDS if command.NAME == words.command).run(words)
+        return command.run(words)
     except Mistake as mistake:
         tell_mistake(mistake)
-        return MISTAKEN
+        return UNUSABLE if command in ANSWERING else MISTAKEN
     except output.CannotWrite as fault:
         if str(fault):
             output.tell(f"policy: {fault}")

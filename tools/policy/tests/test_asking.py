@@ -89,7 +89,7 @@ class Asking(Room):
         ]:
             with self.subTest(text):
                 status, lines, errors = self.ask(FILTER % "ALLOW", "--allowed", "--when", text)
-                self.assertEqual((status, lines), (1, []))
+                self.assertEqual((status, lines), (2, []))
                 self.assertTrue(errors.startswith(told), errors)
         status, _, errors = self.ask(FILTER % "ALLOW", "--by", "nobody")
         self.assertEqual((status, errors), (2, "policy: there is no policy nobody: they are admins, health\n"))

@@ -273,7 +273,7 @@ class WithEngine(Room):
         self.assertEqual((status, out), (0, b"3 requests: 0 changed, 3 the same\n"))
         for words, told in (([], "this file holds 2 filters: a, b"), (["--filter", "c"], "no filter of that name")):
             status, out, errors = self.run_it("diff", *words, "two.bin", "old.yaml", "log.jsonl")
-            self.assertEqual((status, out), (1, b""))
+            self.assertEqual((status, out), (2, b""))
             self.assertIn(f"two.bin: {told}", errors)
 
     def test_examples(self):

@@ -215,8 +215,11 @@ class Decided(Filters):
             self.assertIn("bytes", lines[-1])
 
     def test_refused(self):
-        """A filter that the engine refuses is named, also one without rules."""
+        """A filter that the engine refuses is named, also one without rules. A mistake in a file is no difference either."""
         self.file("good.yaml", POLICY)
+        self.file("bad.yaml", condition("request.path ="))
+        status, out, errors = self.run_here("diff", "--engine", ENGINE, "good.yaml", "bad.yaml")
+        self.assertEqual((status, out, errors.split(": ")[1]), (2, b"", "`=` is no operator"))
         for text, number in (("{}", "4 Missing"), ("rules: {action: 7}", "5 OutOfRange"), (POLICY.replace("any: true", "metadata: {}"), "6 Unsupported")):
             self.file("bad.yaml", text)
             for words in (("good.yaml", "bad.yaml"), ("bad.yaml", "good.yaml"), ("bad.yaml", "bad.yaml")):

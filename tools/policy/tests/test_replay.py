@@ -112,7 +112,7 @@ class Replay(Room):
     def test_mistakes(self):
         for line in ("x\n", "[]\n", '{"event":"other"}\n'):
             told = "record:2: this line is no event of a record of `rbacd serve`\n"
-            self.assertEqual(self.replay('{"event":"ads_up"}\n' + line), (1, [], told))
+            self.assertEqual(self.replay('{"event":"ads_up"}\n' + line), (2, [], told))
         self.assertEqual(self.replay('{"event":"ads_bytes","hex":"0"}\n')[2], "record:1: `hex` has pairs of hexadecimal digits\n")
         status, _, errors = self.replay(update(("f", OLD)), "rules: {action: 7}")
         self.assertEqual((status, "refused: 5 OutOfRange" in errors), (2, True))
