@@ -297,14 +297,16 @@ class Server:
         lines = self.fetch("/metrics")[1].decode().splitlines()
         return {line.rsplit(" ", 1)[0]: float(line.rsplit(" ", 1)[1]) for line in lines if line and line[0] != "#"}
 
+    def worked(self):
+        """The seconds of processor time that it took so far."""
+        fields = pathlib.Path(f"/proc/{self.process.pid}/stat").read_text().rsplit(")", 1)[1].split()
+        return (int(fields[11]) + int(fields[12])) / CLOCK
+
     def processor_time(self, seconds):
         """The seconds of processor time that it takes in so many seconds."""
-        def spent():
-            fields = pathlib.Path(f"/proc/{self.process.pid}/stat").read_text().rsplit(")", 1)[1].split()
-            return (int(fields[11]) + int(fields[12])) / CLOCK
-        before = spent()
+        before = self.worked()
         time.sleep(seconds)
-        return spent() - before
+        return self.worked() - before
 
     def memory(self):
         """The bytes of memory that it takes."""
