@@ -9,6 +9,7 @@ import time
 from grpc_attacks import MIB, ends
 from grpc_planes import ADS, GoPlane, GrpcioPlane
 from http2_peer import HandMadePlane
+from loopback import free_port
 from replays import ANY_ANY, EXTENSION, FILTER, NO_POLICY, PLAIN, allowed, denied, field, request, resource, response, typed
 from try_serve_base import F, REFUSED
 
@@ -152,13 +153,11 @@ class Minutes:
         self.decisions += 1
 
 
-def run(case, minutes):
+def run(case, minutes, kinds):
     """The stages in turn, for so many minutes."""
-    from loopback import free_port
     it = Minutes(case, free_port())
     it.server = case.serve(f"grpc://{it.address()}", timeouts={"first_response": 60_000})
-    kinds, begin = ["grpcio", "old", "drips", "large", "go"], time.monotonic()
-    at = 0
+    kinds, begin, at = kinds or ["grpcio", "old", "drips", "large", "go"], time.monotonic(), 0
     while time.monotonic() < begin + minutes * 60 and not case.wrong:
         kind = kinds[at % len(kinds)]
         it.stage(kind, min(STAGE, minutes * 60 / len(kinds)))
