@@ -97,7 +97,7 @@ def odd_stream(trial, opening):
 def streams(trial):
     """Odd but legal streams, each in random cuts and in single bytes."""
     rng = trial.rng
-    for _ in range(max(1, trial.rounds // 20)):
+    for _ in range(max(1, trial.rounds // 100)):
         octets, seen = odd_stream(trial, trial.call().send())
         for is_each in (False, True):
             call = trial.call()

@@ -32,9 +32,12 @@ import (
 // plain is the codec of messages that are bytes. It takes the place of Protocol Buffers'.
 type plain struct{}
 
-func (plain) Name() string                      { return "proto" }
-func (plain) Marshal(v any) ([]byte, error)     { return *v.(*[]byte), nil }
-func (plain) Unmarshal(data []byte, v any) error { *v.(*[]byte) = append([]byte(nil), data...); return nil }
+func (plain) Name() string                  { return "proto" }
+func (plain) Marshal(v any) ([]byte, error) { return *v.(*[]byte), nil }
+func (plain) Unmarshal(data []byte, v any) error {
+	*v.(*[]byte) = append([]byte(nil), data...)
+	return nil
+}
 
 // order is what a call is to do next: a message, or its end.
 type order struct {
