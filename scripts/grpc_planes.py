@@ -91,7 +91,7 @@ class GoCall(Call):
         self.plane.tell("say", self.number, message.hex())
 
     def end(self, code, text):
-        self.plane.tell("end", self.number, code, text.encode().hex())
+        self.plane.tell("end", self.number, code, text.encode().hex() or "-")
 
 
 class GoPlane:

@@ -2,7 +2,7 @@
 // standard output tells of. Messages are bytes, which go into no message of Protocol Buffers.
 //
 //	call N KEY=VALUE..   a call began, with its metadata, in hex    message N HEX   it brought a message    over N   it has ended
-//	say N HEX            sends a message                            end N CODE TEXT ends it with a status
+//	say N HEX            sends a message                            end N CODE TEXT ends it with a status, its text in hex
 //	graceful             GOAWAY: no new calls, and the end of the server once its calls are over
 //	stop                 ends all at once
 //
