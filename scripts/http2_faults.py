@@ -86,7 +86,7 @@ def floods(trial):
         call.most = 0
         many = octets * (100_000 // len(octets) + 1)
         at = len(many)
-        for _ in range(40):
+        for _ in range(4):
             if at == len(many) and call.end == "open":
                 at = call.hear(many, lambda: 16000, reads=False)
         trial.counts["floods"] += 1

@@ -231,7 +231,7 @@ def one_octet_windows(trial):
 
 
 def calls(trial):
-    for at in range(max(1, trial.rounds // 200)):
+    for at in range(max(1, trial.rounds // 500)):
         one_call(trial, at % 2 == 1)
         trial.counts["calls in single bytes" if at % 2 else "calls"] += 1
     one_octet_windows(trial)
