@@ -12,5 +12,5 @@ def program(words):
         return pathlib.Path(words[0]).resolve()
     proved = TOP / "crates/rbacd/out/rbacd"
     if subprocess.run([TOP / "scripts/made_of", "--is", proved]).returncode:
-        sys.exit(f"{pathlib.Path(sys.argv[0]).name}: {proved} is missing, or not made of the sources as they are; bin/rbacd builds it")
+        sys.exit(f"{pathlib.Path(sys.argv[0]).name}: {proved} is missing, or not made of the sources as they are; bin/rbacd build builds it")
     return proved

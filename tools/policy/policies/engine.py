@@ -1,6 +1,6 @@
 """The engine `rbacd` as processes: what it answers on a filter, and what it decides on requests.
 
-It is the program that `RBACD` names, the proved one of this checkout (`bin/rbacd` builds it), one that was installed
+It is the program that `RBACD` names, the proved one of this checkout (`bin/rbacd build` builds it), one that was installed
 beside this tool, one on the path, or the one of this checkout that is not proved. It is never built from here.
 """
 import concurrent.futures
@@ -17,7 +17,7 @@ from .bounds import Budget
 
 TOP = pathlib.Path(__file__).resolve().parents[3]
 BUILT = TOP / "crates" / "rbacd" / "out" / "rbacd"
-# Compiled without a proof, by `bin/rbacd --unproved`.
+# Compiled without a proof, by `bin/rbacd build --unproved`.
 UNPROVED = BUILT.with_name("unproved")
 # Beside this tool where both are installed into one prefix.
 INSTALLED = TOP.parent / "bin" / "rbacd" if TOP.name == "lib" else BUILT
@@ -78,8 +78,8 @@ def find(named: Optional[str] = None) -> pathlib.Path:
     if os.access(UNPROVED, os.X_OK):
         return UNPROVED
     raise NoEngine(
-        "rbacd is not built: run bin/rbacd once (`bin/rbacd --unproved` takes two minutes), or name a program by --engine "
-        "or RBACD"
+        "rbacd is not built: run bin/rbacd build (`bin/rbacd build --unproved` takes two minutes), or name a program by "
+        "--engine or RBACD"
     )
 
 

@@ -353,7 +353,7 @@ class WithoutEngine(Room):
         self.file("unproved", EXPLAINING)
         (self.room / "unproved").chmod(0o755)
         unproved, nothing = self.room / "unproved", self.room / "none"
-        for path, told in (("/usr/bin:/bin", f"{unproved} is not proved; bin/rbacd proves and builds the program\n"), (str(self.room / "bin"), "")):
+        for path, told in (("/usr/bin:/bin", f"{unproved} is not proved; bin/rbacd build proves and builds the program\n"), (str(self.room / "bin"), "")):
             with mock.patch.multiple(engine, BUILT=nothing, INSTALLED=nothing, UNPROVED=unproved):
                 with mock.patch.dict(os.environ, {"PATH": path}):
                     os.environ.pop("RBACD", None)
@@ -366,7 +366,7 @@ class WithoutEngine(Room):
                 os.environ.pop("RBACD", None)
                 status, out, errors = self.run_here("check", "f.yaml")
         self.assertEqual((status, out), (2, b""))
-        self.assertIn("rbacd is not built: run bin/rbacd once", errors)
+        self.assertIn("rbacd is not built: run bin/rbacd build", errors)
 
     def test_trees(self):
         """A fault of a condition's tree is told at the node that has it."""

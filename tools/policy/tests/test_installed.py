@@ -161,6 +161,33 @@ class Generated(Room):
         ran = subprocess.run([TOOL / "install", "--remove", prefix], capture_output=True, text=True)
         self.assertEqual((ran.returncode, [path for path in prefix.rglob("*") if not path.is_dir()]), (0, []))
 
+    def test_name_of_an_engine(self):
+        """The manual page has the name rbacd, whatever the program's file is called."""
+        self.file("unproved", '#!/bin/sh\necho "An engine"; echo; echo "Usage: ${0##*/} <COMMAND>"\n')
+        (self.room / "unproved").chmod(0o755)
+        ran = subprocess.run([TOOL / "install", self.room / "usr", self.room / "unproved"], capture_output=True, text=True)
+        self.assertEqual((ran.returncode, ran.stderr), (0, ""))
+        page = (self.room / "usr/share/man/man1/rbacd.1").read_text()
+        self.assertIn("Usage: rbacd <COMMAND>", page)
+        self.assertNotIn("unproved", page)
+
+    def test_without_an_engine(self):
+        """If no program is built, the command that builds it is named; --unproved takes the other program."""
+        copy = self.room / "copy"
+        (copy / "crates/rbacd/out").mkdir(parents=True)
+        shutil.copytree(TOOL, copy / "tools/policy", ignore=shutil.ignore_patterns("tests", "__pycache__"))
+        shutil.copy(TOP / "VERSION", copy)
+        install, prefix = copy / "tools/policy/install", self.room / "usr"
+        for words, told in (([], "run bin/rbacd build, and"), (["--unproved"], "run bin/rbacd build --unproved, and")):
+            ran = subprocess.run([install, *words, prefix], capture_output=True, text=True)
+            self.assertEqual((ran.returncode, ran.stderr), (0, ""))
+            self.assertIn(told, ran.stdout)
+        self.file("copy/crates/rbacd/out/unproved", "#!/bin/sh\necho unproved\n")
+        (copy / "crates/rbacd/out/unproved").chmod(0o755)
+        ran = subprocess.run([install, "--unproved", prefix], capture_output=True, text=True)
+        self.assertIn("installed policy and rbacd", ran.stdout)
+        self.assertIn("echo unproved", (prefix / "bin/rbacd").read_text())
+
     def test_installed(self):
         words = [str(ENGINE)] if ENGINE.exists() else []
         ran = subprocess.run([TOOL / "install", self.room / "usr", *words], capture_output=True, text=True)

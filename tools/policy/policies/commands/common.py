@@ -64,7 +64,7 @@ def engine_of(words: argparse.Namespace) -> engine.Engine:
     named = words.engine or os.environ.get("RBACD")
     program = engine.find(named)
     if program == engine.UNPROVED and not named:
-        output.tell(f"policy: note: {program} is not proved; bin/rbacd proves and builds the program")
+        output.tell(f"policy: note: {program} is not proved; bin/rbacd build proves and builds the program")
     return engine.Engine(program)
 
 
