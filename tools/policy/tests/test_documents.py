@@ -48,8 +48,9 @@ class Documents(unittest.TestCase):
         listed = set(re.findall(r"^  ([a-z-]+)  ", self.helps["rbacd"].partition("Commands:")[2], re.MULTILINE))
         self.assertEqual(listed, known | {"help"})
         for name, page in PAGES.items():
-            for command in re.findall(r"(?:`|/)rbacd (?:--unproved )?([a-z-]+)(?= -|`)", page):
-                self.assertIn(command, known, name)
+            for command in re.findall(r"(?:`|/)rbacd (?:--unproved )?([a-z][a-z-]*)(?= -|`)", page):
+                # bin/rbacd has one command of its own
+                self.assertIn(command, known | {"build"}, name)
 
     def test_options_of_the_engine(self):
         """The lines of PROGRAM that show how a command is written have all of its options."""
