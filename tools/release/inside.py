@@ -98,7 +98,8 @@ class Trial:
         section = (DOC / "README.md").read_text().partition("\n## Try it\n")[2].partition("\n## ")[0]
         pasted = re.search(r"(?ms)^```sh\n(.*?)^```$", section)[1]
         commands = re.sub(r"bin/rbacd --unproved ", "rbacd ", "".join(line for line in pasted.splitlines(True) if " build " not in line))
-        ran = subprocess.run(["bash"], cwd=DOC, input=commands, capture_output=True, text=True, timeout=120)
+        # the server goes on until it is stopped
+        ran = subprocess.run(["bash"], cwd=DOC, input=f"{commands}kill $server\nwait\n", capture_output=True, text=True, timeout=120)
         wanted = re.findall(r"(?m)^[^#\n]+# (\d{3}): .*$", commands)
         self.same("README's commands", re.findall(r"(?m)^HTTP/1\.1 (\d{3})", ran.stdout), wanted)
         if not wanted:
