@@ -8,6 +8,7 @@ from .engine import Request
 from .files import name_of, read_file
 from .places import Mistake, Source
 from .requests import Reader, request_log
+from .wrap import text_fault
 
 WHEN = "--when"
 # A filter whose one policy has the condition of a question.
@@ -52,6 +53,8 @@ def _moved(shown: Source, mistake: Mistake, lines: int, start: int) -> Mistake:
 
 def request_of_words(fields: Dict[str, object], headers: List[str], facts: List[str]) -> Request:
     """The request of a command line's words: method, path, host and version, lines of headers, and facts; raises Mistake."""
+    for what, text in [*fields.items(), *(("header", line) for line in headers)]:
+        _check_text(what, text)
     pairs: Dict[str, List[str]] = {}
     for line in headers:
         name, colon, value = line.partition(":")
@@ -67,10 +70,18 @@ def request_of_words(fields: Dict[str, object], headers: List[str], facts: List[
     return Request(head, facts_of_words(facts))
 
 
+def _check_text(what: str, text: object) -> None:
+    """Raises Mistake if a word of the command line is not UTF-8."""
+    fault = text_fault(what, text) if isinstance(text, str) else None
+    if fault is not None:
+        raise Mistake(f"policy: {fault}")
+
+
 def facts_of_words(words: List[str]) -> dict:
     """Facts as `name=value`; raises Mistake."""
     found = {}
     for word in words:
+        _check_text("fact", word)
         name, equals, value = word.partition("=")
         if not equals or not name:
             raise Mistake(f"policy: --fact takes a name and a value, as in remote_ip=10.0.0.1, not {json.dumps(word)}")

@@ -80,6 +80,9 @@ class Judging(Room):
         self.file("two.yaml", "- {path: /a}\n- {path: /b}\n")
         for words, status, told in [
             (["--header", "x-a"], 1, "policy: --header takes a name and a value, as in 'x-user: alice', not \"x-a\"\n"),
+            (["--header", "x: \udcff"], 1, "policy: the header is not UTF-8\n"),
+            (["--path", "/\udcff"], 1, "policy: the path is not UTF-8\n"),
+            (["--fact", "source.address=\udcff"], 1, "policy: the fact is not UTF-8\n"),
             (["--fact", "mtls"], 1, 'policy: --fact takes a name and a value, as in remote_ip=10.0.0.1, not "mtls"\n'),
             (["--request", "two.yaml"], 1, "two.yaml: this file has 2 requests, and one is expected; `policy diff` takes several\n"),
             (["--request", "two.yaml", "--path", "/"], 1, "policy: --request gives the whole request; only --fact goes with it\n"),
