@@ -220,6 +220,8 @@ class Decided(Filters):
         self.file("bad.yaml", condition("request.path ="))
         status, out, errors = self.run_here("diff", "--engine", ENGINE, "good.yaml", "bad.yaml")
         self.assertEqual((status, out, errors.split(": ")[1]), (2, b"", "`=` is no operator"))
+        found = self.run_here("diff", "--engine", ENGINE, "-", "-")
+        self.assertEqual(found, (2, b"", "policy: only one of the files can be standard input\n"))
         for text, number in (("{}", "4 Missing"), ("rules: {action: 7}", "5 OutOfRange"), (POLICY.replace("any: true", "metadata: {}"), "6 Unsupported")):
             self.file("bad.yaml", text)
             for words in (("good.yaml", "bad.yaml"), ("bad.yaml", "good.yaml"), ("bad.yaml", "bad.yaml")):

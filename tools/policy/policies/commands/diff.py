@@ -58,6 +58,9 @@ def add(commands) -> None:
 
 def run(words: argparse.Namespace) -> int:
     """Prints the requests whose verdicts differ."""
+    if [words.old, words.new, words.requests].count("-") > 1:
+        output.tell("policy: only one of the files can be standard input")
+        return UNUSABLE
     files = [words.old, words.new]
     filters = in_processes(partial(filter_of_file, chosen=words.filter), files, 1 if _are_large(files) else len(files))
     sides = [side_of(name_of(file), data) for file, data in zip(files, filters)]
