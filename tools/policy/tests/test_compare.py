@@ -222,7 +222,8 @@ class Decided(Filters):
         self.assertEqual((status, out, errors.split(": ")[1]), (2, b"", "`=` is no operator"))
         found = self.run_here("diff", "--engine", ENGINE, "-", "-")
         self.assertEqual(found, (2, b"", "policy: only one of the files can be standard input\n"))
-        for text, number in (("{}", "4 Missing"), ("rules: {action: 7}", "5 OutOfRange"), (POLICY.replace("any: true", "metadata: {}"), "6 Unsupported")):
+        unsupported = POLICY.replace("any: true", "metadata: {}")
+        for text, number in (("{}", "4 Missing"), ("rules: {action: 7}", "5 OutOfRange"), (unsupported, "6 Unsupported")):
             self.file("bad.yaml", text)
             for words in (("good.yaml", "bad.yaml"), ("bad.yaml", "good.yaml"), ("bad.yaml", "bad.yaml")):
                 found = self.run_here("diff", "--engine", ENGINE, *words)
