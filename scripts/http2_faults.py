@@ -66,10 +66,9 @@ def faults(trial):
             trial.holds(name, call.end.startswith("broken") and told == [number(0) + number(code)], (call.end, told))
 
 
-def floods(trial):
-    """Attacks by their names: how much waits at most, and how they end."""
-    begun = frame(SETTINGS, 0, 0, b"") + frame(HEADERS, 4, 1, fields(*GRPC))
-    attacks = [
+def attacks():
+    """Attacks by their names: the octets, which come again and again, and how the call is after them."""
+    return [
         ("ping flood", frame(PING, 0, 0, bytes(8)), "open"), ("settings flood", frame(SETTINGS, 0, 0, setting(3, 1)), "open"),
         ("empty data", frame(DATA, 0, 1, b""), "open"), ("data of padding", frame(DATA, 8, 1, b"\xff" + bytes(255)), "open"),
         ("window updates", frame(UPDATE, 0, 0, number(1)), "open"), ("unknown frames", frame(77, 0, 1, bytes(99)), "open"),
@@ -80,7 +79,12 @@ def floods(trial):
         ("empty parts without end", frame(HEADERS, 0, 1, b"") + frame(MORE, 0, 1, b"") * 9999, "broken:Connection(EnhanceYourCalm)"),
         ("header bomb", frame(HEADERS, 5, 1, b"\x40\x01a\x7f\x81\x1e" + b"b" * 4000 + b"\xbe" * 8000), "broken:Stream(EnhanceYourCalm)"),
     ]
-    for name, octets, end in attacks:
+
+
+def floods(trial):
+    """How much waits at most in an attack, and how it ends."""
+    begun = frame(SETTINGS, 0, 0, b"") + frame(HEADERS, 4, 1, fields(*GRPC))
+    for name, octets, end in attacks():
         call = trial.call()
         call.hear(begun)
         call.most = 0
