@@ -73,12 +73,13 @@ class Trial:
         return command
 
     def upgrade(self, other):
-        """A request is half sent while the packages are replaced and the server drains: it gets its answer."""
+        """The packages are replaced below the server. A request that is half sent while it drains gets its answer."""
         self.runs("a change of the settings", "sed -i 's/\"edge-1\"/\"edge-2\"/' /etc/rbacd/serve.json")
+        self.install(other)
+        self.same("while the packages are new: a request at the old server", status(FRONT, "/about"), 200)
+        # a head has ten seconds
         with socket.create_connection(("127.0.0.1", FRONT), PATIENCE) as peer:
             peer.sendall(HEAD)
-            self.install(other)
-            self.same("while the packages are new: a request at the old server", status(FRONT, "/about"), 200)
             stopping = self.stop()
             self.same("it drains: /ready", until(lambda: status(ADMIN, "/ready") == 503), True)
             peer.sendall(b"\r\n")
