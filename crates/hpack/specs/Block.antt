@@ -1,5 +1,5 @@
 -- What a header block means: RFC 7541, 3.
-use Rattle.std.specs.Prelude.{◌≡◌, ℕ, Bool, false, List, [], ◌∷◌, ◌++◌, Option, Some, None, is_some, Result, Ok, Err, nat_lt, if◌then◌else◌}
+use Rattle.std.specs.Prelude.{◌≡◌, ◌≢◌, ℕ, Bool, true, false, List, [], ◌∷◌, ◌++◌, Option, Some, None, is_some, Result, Ok, Err, nat_lt, if◌then◌else◌}
 use Rattle.std.specs.Option.{option_to_list}
 use Rattle.hpack.specs.Grammar.{IsForm, Starts}
 use Rattle.hpack.specs.Outcome.{◌>>=◌}
@@ -57,9 +57,27 @@ pub record Means (most : ℕ) (began : Bool) (before : Table) (block : List ℕ)
 abbrev pub within : ℕ → List Line → Option (List Line)
 within limit fields = if nat_lt limit (lines_size fields) then None else Some fields
 
--- a block is refused only if it means nothing, or memory ran out
+-- a field came: before, or among these
+abbrev pub begun : Bool → List Line → Bool
+begun before [] = before
+begun before (f ∷ fs) = true
+
+-- The first fault of a block, from a table on: representations that have none, and then octets with this one. They spell no
+-- representation (5, 6), or it may not be there (2.3.3, 4.2, 6.3).
+pub record HasFault (most : ℕ) (began : Bool) (before : Table) (block : List ℕ) (f : Fault) : Type 0 where
+  pub forms : List Form
+  pub front : List ℕ
+  pub rest : List ℕ
+  pub fields : List Line
+  pub after : Table
+  pub whole : block ≡ front ++ rest
+  pub spells : Spells front forms
+  pub runs : run most began before forms ≡ Ok (fields, after)
+  pub more : rest ≢ []
+  pub fails : step_at most (begun began fields) after rest ≡ Err f
+
+-- a block is refused for its first fault, or because memory ran out
 abbrev pub Refuses : HpackError → ℕ → Table → List ℕ → Type 0
 Refuses errors.Memory most before block = Unit {0}
 Refuses errors.Closed most before block = ⊥
-Refuses (errors.Compression f) most before block =
-    (fields : List Line) (after : Table) → Means most false before block fields after → ⊥
+Refuses (errors.Compression f) most before block = HasFault most false before block f
