@@ -2,6 +2,7 @@ use Rattle.std.proofs.Common.{◌≡◌, Bool, [], map, refl, ap, ◌∙◌, Som
 use Rattle.std.proofs.lemmas.Result.{IfOk-weaker}
 use Rattle.hpack.specs.Field.{line_of}
 use Rattle.hpack.specs.Block.{within}
+use Rattle.hpack.proofs.Faulty.{fault_nothing}
 use Rattle.http2.specs.Control.{fields, garbled, ends, is_over}
 use Rattle.http2.specs.Controls.{control_view, told_view}
 use Rattle.http2.specs.declared.end.End.{End}
@@ -38,5 +39,5 @@ returns-in-Err-Compression-clause-gathers c =
     let same : c.deref.result.now ≡ old.block.items = search rules in
     let refuses = rw c.in-Err-Compression.field-0-is at (c.in-Err-Compression.ensures.refused c.requires.alive) in
     garbled c.requires.light refl
-    (λ fields table means. refuses fields table (rw (old.table, same) means))
+    (λ fields table means. fault_nothing 4096 false old.decoder.table old.block.items _ fields table (rw (old.table, same) at refuses) means)
     (ap (λ (e : End). ends e (control_view old)) c.broken.ensures)
