@@ -3,3 +3,4 @@ mod Good
 mod Meaning
 mod OriginLaws
 pub mod PlainSteps
+mod StepsTaken

@@ -137,6 +137,13 @@ pub behind_more : (operands : List CelPlaced) (a : CelPlaced) (o : Option (List 
 behind_more operands a None = refl
 behind_more operands a (Some others) = ap Some (sym (append_assoc operands (a ∷ []) others))
 
+pub one_more_operand : (operands : List Placed) (a : Placed) (o : Option (List CelPlaced))
+    → behind (map placed_view operands) (placed_before (Some (placed_view a)) o)
+    ≡ behind (map placed_view (operands ++ a ∷ [])) o
+one_more_operand operands a o =
+    behind_more (map placed_view operands) (placed_view a) o
+    ∙ ap (λ l. behind l o) (sym (map-append placed_view operands (a ∷ [])))
+
 pub two_more : (operands : List Placed) (a b : Placed) (o : Option (List CelPlaced))
     → behind (map placed_view operands) (placed_before (Some (placed_view a)) (placed_before (Some (placed_view b)) o))
     ≡ behind (map placed_view ((operands ++ a ∷ []) ++ b ∷ [])) o

@@ -1,3 +1,4 @@
 pub mod Origin
 pub mod Places
+pub mod Steps
 pub mod private

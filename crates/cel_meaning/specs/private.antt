@@ -1,2 +1,3 @@
 -- Definitions that only clauses of private functions and proofs use.
+pub mod Counting
 pub mod Plain

@@ -36,11 +36,6 @@ pub(super) struct Around<'c, 't> {
 }
 
 impl<'c, 't> Around<'c, 't> {
-    /// How many steps the evaluation of a part takes, without the parts inside it: its locals may be copied or searched.
-    pub(super) fn cost(&self) -> u64 {
-        (self.known.len() as u64).saturating_add(1)
-    }
-
     /// The numbers of the turns around a turn of this number.
     pub(super) fn turns_with(&self, number: usize) -> Result<Vec<usize>, AllocError>
         ensures { IfOk result (λ turns. turns.items ≡ number ∷ self.now.turns.now) }

@@ -3,12 +3,13 @@
 //! conditions, and tests compare the machine's results with it.
 #![tactic(auto)]
 
-ghost use Rattle.std.specs.Prelude.{◌≡◌, IfOk, option_map};
+ghost use Rattle.std.specs.Prelude.{◌≡◌, ◌<◌, ◌≤◌, IfErr, IfOk, OnOk, option_map};
 ghost use Rattle.cel_tree.specs.View.{tree_view};
 ghost use Rattle.cel_value.specs.View.{answer_view};
 ghost use Rattle.cel_types.specs.Meaning.{eval};
 ghost use Rattle.cel_meaning.specs.Origin.{placed};
 ghost use Rattle.cel_meaning.specs.Places.{around, locals_view, placed_view};
+ghost use Rattle.cel_meaning.specs.Steps.{steps};
 
 mod around;
 mod binary;
@@ -22,6 +23,7 @@ mod nodes;
 mod place;
 mod stopped;
 mod unary;
+mod way;
 
 use crate::known::bare_locals;
 use around::Around;
@@ -36,7 +38,8 @@ pub use stopped::Stopped;
 
 /// The answer of an expression for a request and these locals, the innermost first. If it is an error, with where it
 /// begins. `None` if a value is of a wrong kind or a name is not known; neither occurs in an expression that has a type.
-/// It takes at most so many steps: for each part that is evaluated, one more than there are locals.
+/// It takes at most so many steps, one for each part that is evaluated. A step's own time grows with the number of locals
+/// and with the sizes of values. `OutOfSteps` exactly if it would take more steps, unless memory runs out before.
 pub fn evaluate_plainly<'t>(
     alloc: Global,
     tree: &'t Tree,
@@ -48,6 +51,9 @@ pub fn evaluate_plainly<'t>(
         ≡ eval (tree_view tree.now) request.now (locals_view locals.now)) }
     ensures place { IfOk result (λ found. option_map placed_view found
         ≡ placed request.now (around (locals_view locals.now)) (tree_view tree.now)) }
+    ensures within { OnOk result (steps request.now (around (locals_view locals.now)) (tree_view tree.now) ≤ most) }
+    ensures out { IfErr result (λ e. e ≡ Stopped.OutOfSteps
+        → most < steps request.now (around (locals_view locals.now)) (tree_view tree.now)) }
 {
     evaluate(alloc, tree, request, locals, most)
 }
@@ -60,8 +66,11 @@ fn evaluate<'t>(
     locals: &[(ArcStr, Answer)],
     most: u64,
 ) -> Result<Option<Placed<'t>>, Stopped>
-    ensures { IfOk result (λ found. option_map placed_view found
+    ensures place { IfOk result (λ found. option_map placed_view found
         ≡ placed request.now (around (locals_view locals.now)) (tree_view tree.now)) }
+    ensures within { OnOk result (steps request.now (around (locals_view locals.now)) (tree_view tree.now) ≤ most) }
+    ensures out { IfErr result (λ e. e ≡ Stopped.OutOfSteps
+        → most < steps request.now (around (locals_view locals.now)) (tree_view tree.now)) }
 {
     let known = bare_locals(alloc, locals)?;
     let outermost = Around {

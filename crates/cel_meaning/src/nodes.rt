@@ -1,6 +1,6 @@
 //! Nodes, and the nodes inside them.
 
-ghost use Rattle.std.specs.Prelude.{◌≡◌, [], ◌∷◌, IfOk, Option, Some, map, option_map};
+ghost use Rattle.std.specs.Prelude.{◌≡◌, ◌+◌, ◌<◌, [], ◌∷◌, IfErr, IfOk, OnOk, Option, Some, map, option_map, ℕ};
 ghost use Rattle.cel_tree.specs.View.{target_of, tree_view};
 ghost use Rattle.cel_tree.specs.private.TreeViews.{boxed_view, loop_view, tree_entries_view, trees_view};
 ghost use Rattle.cel_value.specs.Texts.{text_view};
@@ -9,6 +9,8 @@ ghost use Rattle.cel_types.specs.Meaning.{select_answer};
 ghost use Rattle.cel_types.specs.Names.{root_of};
 ghost use Rattle.cel_meaning.specs.Origin.{CelPlaced, in_result, placed, placed_each, placed_entries, placed_target, placed_turn, select_place};
 ghost use Rattle.cel_meaning.specs.Places.{placed_view};
+ghost use Rattle.cel_meaning.specs.Steps.{steps, steps_each, steps_entries, steps_target};
+ghost use Rattle.cel_meaning.specs.private.Counting.{loop_steps, operand_steps, then_steps, turn_steps, turns_steps};
 ghost use Rattle.cel_meaning.specs.private.Plain.{around_view, loop_answer, shared_view, turn_view, turned, turns};
 
 use crate::around::Around;
@@ -18,8 +20,9 @@ use crate::leaves::{constant_value, field_answer};
 use crate::place::{Place, Placed, joined};
 use crate::stopped::{Stopped, spend};
 use crate::unary::{has_field, select_field};
+use crate::way::{Way, way_of};
 use cel_tree::{Comprehension, Tree, TreeEntry};
-use cel_value::{Answer, Value};
+use cel_value::Answer;
 use std::sync::{Arc, ArcStr};
 
 /// What a turn of a comprehension does.
@@ -42,10 +45,14 @@ pub(super) fn eval<'t>(
     tree: &'t Tree,
     left: &mut u64,
 ) -> Result<Option<Placed<'t>>, Stopped>
-    ensures { IfOk result (λ found. option_map placed_view found
+    ensures found { IfOk result (λ found. option_map placed_view found
         ≡ placed around.now.request.now (around_view around.now) (tree_view tree.now)) }
+    ensures taken { let r = around.now.request.now in let c = around_view around.now in
+        OnOk result (left.old ≡ steps r c (tree_view tree.now) + left.new) }
+    ensures out { let r = around.now.request.now in let c = around_view around.now in
+        IfErr result (λ e. e ≡ Stopped.OutOfSteps → left.old < steps r c (tree_view tree.now)) }
 {
-    spend(left, around.cost())?;
+    spend(left)?;
     match tree {
         Tree::Constant { value, .. } => Ok(Some(Placed::of(constant_value(value)?))),
         Tree::Ident { name, .. } => Ok(around.name(tree, name)?),
@@ -96,11 +103,15 @@ fn eval_select<'t>(
     test_only: bool,
     left: &mut u64,
 ) -> Result<(Option<Answer>, Option<Arc<Place<'t>>>), Stopped>
-    ensures { let c = around_view around.now in let on = placed around.now.request.now c (tree_view operand.now) in
+    ensures found { let c = around_view around.now in let on = placed around.now.request.now c (tree_view operand.now) in
         let root = root_of (tree_view operand.now) c.locals in
         IfOk result (λ found. (option_map answer_view found.0 ≡ select_answer around.now.request.now root
         (option_map (λ a. a.0) on) (text_view field.now) test_only)
         × (shared_view found.1 ≡ select_place root on)) }
+    ensures taken { let r = around.now.request.now in let c = around_view around.now in
+        OnOk result (left.old ≡ operand_steps r c (tree_view operand.now) + left.new) }
+    ensures out { let r = around.now.request.now in let c = around_view around.now in
+        IfErr result (λ e. e ≡ Stopped.OutOfSteps → left.old < operand_steps r c (tree_view operand.now)) }
 {
     if let Some(root) = bare_root(operand, around.known) {
         if test_only {
@@ -131,8 +142,12 @@ fn eval_target<'t>(
     target: &'t Option<Box<Tree>>,
     left: &mut u64,
 ) -> Result<Option<Vec<Placed<'t>>>, Stopped>
-    ensures { IfOk result (λ found. option_map (λ v. map placed_view v.items) found
+    ensures found { IfOk result (λ found. option_map (λ v. map placed_view v.items) found
         ≡ placed_target around.now.request.now (around_view around.now) (target_of (boxed_view target.now)) (Some [])) }
+    ensures taken { let r = around.now.request.now in let c = around_view around.now in
+        OnOk result (left.old ≡ steps_target r c (target_of (boxed_view target.now)) 0 + left.new) }
+    ensures out { let r = around.now.request.now in let c = around_view around.now in
+        IfErr result (λ e. e ≡ Stopped.OutOfSteps → left.old < steps_target r c (target_of (boxed_view target.now)) 0) }
 {
     let mut operands = Vec::new(around.alloc);
     match target {
@@ -154,8 +169,12 @@ fn eval_each<'t>(
     trees: &'t [Tree],
     left: &mut u64,
 ) -> Result<Option<Vec<Placed<'t>>>, Stopped>
-    ensures { IfOk result (λ found. option_map (λ v. map placed_view v.items) found
+    ensures found { IfOk result (λ found. option_map (λ v. map placed_view v.items) found
         ≡ placed_each around.now.request.now (around_view around.now) (trees_view trees.now)) }
+    ensures taken { let r = around.now.request.now in let c = around_view around.now in
+        OnOk result (left.old ≡ steps_each r c (trees_view trees.now) + left.new) }
+    ensures out { let r = around.now.request.now in let c = around_view around.now in
+        IfErr result (λ e. e ≡ Stopped.OutOfSteps → left.old < steps_each r c (trees_view trees.now)) }
 {
     let mut answers = Vec::new(around.alloc);
     for tree in trees {
@@ -174,8 +193,12 @@ fn eval_entries<'t>(
     entries: &'t [TreeEntry],
     left: &mut u64,
 ) -> Result<Option<Vec<Placed<'t>>>, Stopped>
-    ensures { IfOk result (λ found. option_map (λ v. map placed_view v.items) found
+    ensures found { IfOk result (λ found. option_map (λ v. map placed_view v.items) found
         ≡ placed_entries around.now.request.now (around_view around.now) (tree_entries_view entries.now)) }
+    ensures taken { let r = around.now.request.now in let c = around_view around.now in
+        OnOk result (left.old ≡ steps_entries r c (tree_entries_view entries.now) + left.new) }
+    ensures out { let r = around.now.request.now in let c = around_view around.now in
+        IfErr result (λ e. e ≡ Stopped.OutOfSteps → left.old < steps_entries r c (tree_entries_view entries.now)) }
 {
     let mut answers = Vec::new(around.alloc);
     for entry in entries {
@@ -198,8 +221,12 @@ fn eval_loop<'t>(
     parts: &'t Comprehension,
     left: &mut u64,
 ) -> Result<Option<Placed<'t>>, Stopped>
-    ensures { IfOk result (λ found. option_map placed_view found
+    ensures found { IfOk result (λ found. option_map placed_view found
         ≡ loop_answer (loop_view parts.now) around.now.request.now (around_view around.now)) }
+    ensures taken { let r = around.now.request.now in let c = around_view around.now in
+        OnOk result (left.old ≡ loop_steps (loop_view parts.now) r c + left.new) }
+    ensures out { let r = around.now.request.now in let c = around_view around.now in
+        IfErr result (λ e. e ≡ Stopped.OutOfSteps → left.old < loop_steps (loop_view parts.now) r c) }
 {
     let range = match eval(around, &parts.iter_range, left)? {
         None => return Ok(None),
@@ -228,9 +255,15 @@ fn eval_turns<'t>(
     init: Placed<'t>,
     left: &mut u64,
 ) -> Result<Option<Placed<'t>>, Stopped>
-    ensures { IfOk result (λ found. option_map placed_view found
+    ensures found { IfOk result (λ found. option_map placed_view found
         ≡ turns (loop_view parts.now) around.now.request.now (around_view around.now) 0 (map turn_view each.now)
         (placed_view init.entry)) }
+    ensures taken { let r = around.now.request.now in let c = around_view around.now in
+        OnOk result (left.old ≡ turns_steps (loop_view parts.now) r c 0 (map turn_view each.now) (placed_view init.entry)
+        + left.new) }
+    ensures out { let r = around.now.request.now in let c = around_view around.now in
+        IfErr result (λ e. e ≡ Stopped.OutOfSteps
+        → left.old < turns_steps (loop_view parts.now) r c 0 (map turn_view each.now) (placed_view init.entry)) }
 {
     let mut gathered = init;
     for number in 0..each.len() {
@@ -259,9 +292,15 @@ fn eval_result<'t>(
     gathered: &Placed<'t>,
     left: &mut u64,
 ) -> Result<Option<Placed<'t>>, Stopped>
-    ensures { IfOk result (λ found. option_map placed_view found ≡ placed around.now.request.now
+    ensures found { IfOk result (λ found. option_map placed_view found ≡ placed around.now.request.now
         (in_result (text_view parts.now.accu_var) (placed_view gathered.now) (around_view around.now))
         (tree_view parts.now.result)) }
+    ensures taken { let r = around.now.request.now in let c = around_view around.now in
+        OnOk result (left.old ≡ steps r (in_result (text_view parts.now.accu_var) (placed_view gathered.now) c)
+        (tree_view parts.now.result) + left.new) }
+    ensures out { let r = around.now.request.now in let c = around_view around.now in
+        IfErr result (λ e. e ≡ Stopped.OutOfSteps
+        → left.old < steps r (in_result (text_view parts.now.accu_var) (placed_view gathered.now) c) (tree_view parts.now.result)) }
 {
     let known = with_local(around.alloc, around.known, &parts.accu_var, gathered)?;
     let inner = Around {
@@ -278,31 +317,37 @@ fn eval_turn<'t>(
     parts: &'t Comprehension,
     left: &mut u64,
 ) -> Result<Turned<'t>, Stopped>
-    ensures { let r = around.now.request.now in let c = around_view around.now in
+    ensures found { let r = around.now.request.now in let c = around_view around.now in
         IfOk result (λ t. (next : CelPlaced → Option CelPlaced) (ended : Option CelPlaced)
         → placed_turn (placed r c (tree_view parts.now.loop_condition)) (placed r c (tree_view parts.now.loop_step))
         next ended ≡ turned t next ended) }
+    ensures taken { let r = around.now.request.now in let c = around_view around.now in
+        IfOk result (λ t. (next : CelPlaced → ℕ) (ended : ℕ)
+        → left.old + then_steps t next ended ≡ turn_steps (loop_view parts.now) r c next ended + left.new) }
+    ensures out { let r = around.now.request.now in let c = around_view around.now in
+        IfErr result (λ e. e ≡ Stopped.OutOfSteps → (next : CelPlaced → ℕ) (ended : ℕ)
+        → left.old < turn_steps (loop_view parts.now) r c next ended) }
 {
     let condition = match eval(around, &parts.loop_condition, left)? {
         None => return Ok(Turned::Nothing),
         Some(condition) => condition,
     };
-    match &condition.answer {
-        Ok(Value::Bool(true)) => {
+    match way_of(&condition.answer) {
+        Way::Goes => {
             drop(condition);
             match eval(around, &parts.loop_step, left)? {
                 Some(next) => Ok(Turned::Next(next)),
                 None => Ok(Turned::Nothing),
             }
         }
-        Ok(Value::Bool(false)) => {
+        Way::Ends => {
             drop(condition);
             Ok(Turned::Ends)
         }
-        Ok(_) => {
+        Way::Nothing => {
             drop(condition);
             Ok(Turned::Nothing)
         }
-        Err(_) => Ok(Turned::Fails(condition)),
+        Way::Fails => Ok(Turned::Fails(condition)),
     }
 }

@@ -35,14 +35,14 @@ impl<T: Drop> From<AllocFailed<T>> for Stopped {
     }
 }
 
-/// Takes steps from those that are left; `OutOfSteps` if fewer are left.
-pub(super) fn spend(left: &mut u64, steps: u64) -> Result<(), Stopped>
-    ensures taken { OnOk result (steps + left.new ≡ left.old) }
-    ensures out { IfErr result (λ e. (e ≡ Stopped.OutOfSteps) × (left.old < steps)) }
+/// Takes a step from those that are left; `OutOfSteps` if none is left.
+pub(super) fn spend(left: &mut u64) -> Result<(), Stopped>
+    ensures taken { OnOk result (1 + left.new ≡ left.old) }
+    ensures out { IfErr result (λ e. (e ≡ Stopped.OutOfSteps) × (left.old < 1)) }
 {
-    if *left < steps {
+    if *left < 1 {
         return Err(Stopped::OutOfSteps);
     }
-    *left -= steps;
+    *left -= 1;
     Ok(())
 }

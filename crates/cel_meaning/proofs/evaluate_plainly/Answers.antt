@@ -12,6 +12,6 @@ returns-clause-meaning c =
     let r = c.args.request.now in
     let ls = locals_view c.args.locals.now in
     let t = tree_view c.args.tree.now in
-    MatchResult-weaker c.evaluate.result c.evaluate.ensures
+    MatchResult-weaker c.evaluate.result c.evaluate.ensures.place
     (λ found h. seen_answer found ∙ (ap answer_of h ∙ (placed_answer r (around ls) t ∙ ap (eval t r) (around_answers ls))))
     (λ _ _. tt)

@@ -8,7 +8,7 @@ use Rattle.attributes.specs.Request.{RequestValue}
 use Rattle.cel_tree.specs.View.{LoopParts}
 use Rattle.cel_value.specs.Keys.{key_of_value}
 use Rattle.cel_value.specs.Texts.{text_view}
-use Rattle.cel_value.specs.Values.{CelAnswer, CelValue, fails, value}
+use Rattle.cel_value.specs.Values.{CelAnswer, CelValue, bool, fails, value}
 use Rattle.cel_value.specs.View.{answer_view, value_view}
 use Rattle.cel_value.specs.declared.error.CelError.{CelError}
 use Rattle.cel_value.specs.declared.value.Value.{Value}
@@ -21,6 +21,8 @@ use Rattle.cel_meaning.specs.declared.nodes.Turned.{Turned}
 use Rattle.cel_meaning.specs.declared.nodes.Turned.TheVariants as outcomes
 use Rattle.cel_meaning.specs.declared.place.Place.{Place}
 use Rattle.cel_meaning.specs.declared.place.Placed.{Placed}
+use Rattle.cel_meaning.specs.declared.way.Way.{Way}
+use Rattle.cel_meaning.specs.declared.way.Way.TheVariants as ways
 
 -- a place that may be shared, if there is one
 abbrev pub shared_view : Option (Arc Place Global) → Option CelPlace
@@ -84,3 +86,10 @@ turned (outcomes.Next a) next ended = next (placed_view a)
 turned outcomes.Ends next ended = ended
 turned (outcomes.Fails a) next ended = Some (placed_view a)
 turned outcomes.Nothing next ended = None
+
+-- what a turn does after a condition with this answer
+abbrev pub way_of : CelAnswer → Way
+way_of (value (bool true)) = ways.Goes
+way_of (value (bool false)) = ways.Ends
+way_of (fails e) = ways.Fails
+way_of (value _) = ways.Nothing
