@@ -12,7 +12,7 @@ use std::sync::Arc;
 
 /// How many bytes are read from the control plane at once.
 const CHUNK: usize = 16_384;
-/// How often the control plane is read in one read of the stream, if what it sends are no data.
+/// How often the control plane is read at once while its windows allow no data.
 const READS: u8 = 64;
 /// How often it is written at once.
 const WRITES: u8 = 64;
@@ -181,6 +181,37 @@ impl GrpcStream {
         Ok(true)
     }
 
+    // Sends as many bytes as the control plane's windows allow. While they allow none, it reads on, since the control plane
+    // opens them by what it sends.
+    fn say(&mut self, buf: &[u8]) -> io::Result<usize>
+        ensures { IfOk result (λ n. n ≤ length buf.now) }
+    {
+        for _ in 0..READS {
+            let count = self.tunnel.say(self.alloc, buf)?;
+            if count > 0 || !self.hear()? {
+                return Ok(count);
+            }
+        }
+        Ok(0)
+    }
+
+    // Reads the link once, if the tunnel takes what it sends. Returns whether bytes came.
+    fn hear(&mut self) -> io::Result<bool> {
+        self.take_kept()?;
+        if let Some(error) = self.end() {
+            return Err(error);
+        }
+        if !self.kept.is_empty() {
+            return Ok(false);
+        }
+        match self.read_link() {
+            Ok(true) => Ok(true),
+            Ok(false) => Err(io::Error::from(ErrorKind::UnexpectedEof)),
+            Err(error) if error.kind() == ErrorKind::WouldBlock => Ok(false),
+            Err(error) => Err(error),
+        }
+    }
+
     // The error that the end of the call is, if it is over. Its words are told.
     fn end(&self) -> Option<io::Error> {
         if self.is_silent {
@@ -199,23 +230,30 @@ impl GrpcStream {
 }
 
 impl Read for GrpcStream {
-    /// The data of the call. Fails with the cause once the call is over.
+    /// The data of the call, after at most one read of the link. Fails with `Interrupted` if what came are no data, with
+    /// `WouldBlock` while the control plane does not take what answers it, and with the cause once the call is over.
     fn read(&mut self, buf: &mut [u8]) -> io::Result<usize> {
         self.watch();
         self.write_out()?;
         self.take_kept()?;
-        for _ in 0..READS {
-            if !self.tunnel.data().is_empty() {
-                return self.give(buf);
-            }
+        if self.tunnel.data().is_empty() {
             if let Some(error) = self.end() {
                 return Err(error);
+            }
+            if !self.kept.is_empty() {
+                return Err(io::Error::from(ErrorKind::WouldBlock));
             }
             if !self.read_link()? {
                 return Ok(0);
             }
         }
-        Err(io::Error::from(ErrorKind::Interrupted))
+        if !self.tunnel.data().is_empty() {
+            return self.give(buf);
+        }
+        match self.end() {
+            Some(error) => Err(error),
+            None => Err(io::Error::from(ErrorKind::Interrupted)),
+        }
     }
 }
 
@@ -226,7 +264,7 @@ impl Write for GrpcStream {
         if buf.is_empty() {
             return Ok(0);
         }
-        let count = self.tunnel.say(self.alloc, buf)?;
+        let count = self.say(buf)?;
         self.write_out()?;
         if count == 0 {
             return Err(io::Error::from(ErrorKind::WouldBlock));
