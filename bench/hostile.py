@@ -307,6 +307,41 @@ def is_short(of):
     return call(b"_<_", length(of), integer(9))
 
 
+def negated(levels):
+    return boolean() if levels == 0 else call(b"!_", negated(levels - 1))
+
+
+def one_turn(over, step):
+    """A loop over the list whose accumulator, a bool, stays."""
+    return gather(over, TRUE, step, ident(b"q"), b"q", b"y")
+
+
+def made_against_visits():
+    """Expressions made against the visits themselves, each of another kind of work in one visit: their names and their bytes. In each
+    turn of the innermost of 11 loops of 2 turns, so many branches are measured. All take about 2^22 visits, and few steps."""
+    names = [b"t%d" % level for level in range(11)]
+    kinds = (
+        ("sizes of texts", 310, lambda one, other: is_short(one)),
+        ("bytes of texts", 270, lambda one, other: is_same(call(b"bytes", one), call(b"bytes", other))),
+        ("lists of a text", 270, lambda one, other: is_same(items(one), items(other))),
+        ("lists of a list of a text", 210, lambda one, other: is_same(items(items(one)), items(items(other)))),
+        ("maps of a text", 200, lambda one, other: is_same(pairs((one, other)), pairs((other, one)))),
+        ("values of maps", 190, lambda one, other: is_same(call(b"_[_]", pairs((one, other)), one), other)),
+        ("items of lists", 230, lambda one, other: is_same(first(items(one)), other)),
+        ("texts in lists", 300, lambda one, other: is_in(one, items(other))),
+        ("texts of numbers", 300, lambda one, other: is_same(call(b"string", integer(5)), one)),
+        ("20 negations", 76, lambda one, other: negated(20)),
+        ("a loop of one turn", 200, lambda one, other: one_turn(ones(1), ident(b"q"))),
+        ("a loop of two turns", 150, lambda one, other: one_turn(ones(2), call(b"_&&_", ident(b"q"), TRUE))),
+        ("a loop over a map", 170, lambda one, other: gather_table(
+            pairs((X, one)), TRUE, ident(b"q"), ident(b"q"), b"q", b"k", b"v")),
+    )
+    two = pairs_of(names) * 3
+    for kind, count, make in kinds:
+        yield f"11 nested loops of 2 turns, with {count} branches, each with {kind}", looped(
+            names, choices([make(one, other) for one, other in two[:count]]))
+
+
 def turned(names, test):
     """A test of the size of a text: loops of two turns, one in another, whose texts grow by what the innermost one's step gives."""
     grown = choice(test, X, X)
