@@ -1,6 +1,7 @@
 """What the parts of scripts/try_http2 share: the program that runs the crates, a call of it, and how much was compared."""
 import collections
 import random
+import resource
 import subprocess
 
 # the fields of an answer of gRPC
@@ -20,6 +21,13 @@ class Program:
 
     def tell(self, line):
         self.run.stdin.write(line + "\n")
+
+    def close(self):
+        """Ends the program; the seconds of a processor that it took."""
+        before = resource.getrusage(resource.RUSAGE_CHILDREN)
+        self.run.communicate()
+        after = resource.getrusage(resource.RUSAGE_CHILDREN)
+        return after.ru_utime + after.ru_stime - before.ru_utime - before.ru_stime
 
 
 class Call:
@@ -65,8 +73,9 @@ class Call:
     def hear_each(self, octets):
         """The peer writes each octet by itself, and reads what waits after each; what it read."""
         self.do("each", octets.hex())
-        self.said += self.waits
-        return self.waits
+        said, self.waits = self.waits, b""
+        self.said += said
+        return said
 
 
 class Trial:
