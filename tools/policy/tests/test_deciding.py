@@ -20,7 +20,7 @@ if has_solver():
 
 BUDGET = Budget()
 # So many pairs are made, of which the engine takes so many at least; equal ones are tried by so many requests, in parts.
-MADE, PAIRS, TRIED, TRIED_AT_ONCE = 130, 100, 300, 50
+MADE, PAIRS, TRIED, TRIED_AT_ONCE = 160, 100, 300, 50
 SEED = 2
 PATIENCE, PATIENCE_AT_RANDOM = 120, 30
 # Of random pairs so many at most are not decided.
