@@ -31,7 +31,7 @@ turns_append [] ys old mid new same more = rw same at more
 turns_append (x ∷ xs) ys old mid new (next, does, others) more =
     (next, does, turns_append xs ys next mid new others more)
 
-turns_stay : (xs : List Turn) (old new : WorkerValue) → TurnsDo old xs new → Stays old.core new.core
+pub turns_stay : (xs : List Turn) (old new : WorkerValue) → TurnsDo old xs new → Stays old.core new.core
 turns_stay [] old new same =
     (ap (λ (w : WorkerValue). w.core.client.config) same, ap (λ (w : WorkerValue). length w.core.conns) same)
 turns_stay (x ∷ xs) old new (next, does, others) =

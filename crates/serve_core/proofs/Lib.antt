@@ -2,3 +2,8 @@ mod Driving
 mod Telling
 mod Wire
 mod OtherProtocolLemmas
+mod Clients
+mod Reading
+mod FrontRuns
+mod MappedWire
+mod FrontSteps

@@ -2,3 +2,8 @@ pub mod Turns
 pub mod Headline
 pub mod Cores
 pub mod OtherProtocols
+pub mod Rules
+pub mod ClientRequests
+pub mod Fronts
+pub mod Served
+pub mod MappedHeadline

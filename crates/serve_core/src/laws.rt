@@ -1,11 +1,18 @@
-//! Laws of a worker under the loop.
-ghost use Rattle.std.specs.Prelude.{List, length};
+//! Laws of a worker under the loop, and of one behind front proxies.
+ghost use Rattle.std.specs.Prelude.{◌≡◌, List, codes, length};
+ghost use Rattle.head_map.specs.Mapped.{MappingValue, PartsValue};
+ghost use Rattle.http_front.specs.Answer.{row_of};
+ghost use Rattle.serve_config.specs.declared.config.Paths.{Paths};
 ghost use Rattle.serve_loop.specs.Law.{Belong};
 ghost use Rattle.rbac_serve.specs.Tables.{WorkerValue};
 ghost use Rattle.rbac_serve.specs.Workers.{worker_view};
 ghost use Rattle.serve_core.specs.Headline.{ServerHeadline};
+ghost use Rattle.serve_core.specs.MappedHeadline.{ServedHeadline};
+ghost use Rattle.serve_core.specs.Rules.{IsUnjudged};
 ghost use Rattle.serve_core.specs.Turns.{IsDriven, ServerEvent, ServerStep, ServerTurn};
+ghost use Rattle.serve_core.specs.declared.unjudged.Unjudged.{Unjudged};
 
+use crate::served::Served;
 use crate::worker_service::WorkerService;
 use attributes::Conn;
 use serve_loop::{Network, Observer, Server};
@@ -23,4 +30,18 @@ pub fn a_server_has_the_headline<N: Network<Conn>, O: Observer<Conn, WorkerServi
 )
     ensures { let w = worker_view server.now.board.parties.service.worker in
         ∥ ServerHeadline w.core.client.config (length w.core.conns) (N.wire server.now.board.parties.network) ∥₁ }
+{}
+
+/// At any time, whatever a server did, the headline holds of what is on its wire: by the requests as they were sent, or by
+/// those of the clients that a rule gives.
+pub fn a_served_wire_has_the_headline<'m, N: Network<Conn>, O: Observer<Conn, Served<'m>>>(
+    server: &Server<Conn, N, Served<'m>, O>,
+)
+    ensures { ∥ ServedHeadline server.now.board.parties.service (N.wire server.now.board.parties.network) ∥₁ }
+{}
+
+/// A request that is not judged is answered 400, without a verdict.
+pub fn an_unjudged_request_is_answered_400()
+    ensures { (m : MappingValue) (paths : Paths) (old : PartsValue) (unjudged : Unjudged) → IsUnjudged m paths old unjudged
+        → ((row_of unjudged.case).status ≡ 400) × ((row_of unjudged.case).verdict ≡ codes "none") }
 {}

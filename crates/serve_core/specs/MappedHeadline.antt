@@ -1,0 +1,41 @@
+-- The headline of a server behind front proxies (this project's own).
+use Rattle.std.specs.Prelude.{◌≡◌, ◌<◌, ℕ, List, ◌++◌, length}
+use Rattle.ads.specs.Config.{ConfigValue}
+use Rattle.proxy_core.specs.Headline.{Headline}
+use Rattle.proxy_core.specs.Step.{events_of, outputs_of}
+use Rattle.proxy_core.specs.Worker.{calls_at}
+use Rattle.rbac_serve.specs.Workers.{worker_view}
+use Rattle.serve_loop.specs.declared.stream.Stream.{Stream}
+use Rattle.serve_loop.specs.History.{IsOrderly, answered_at, sent_at, waiting_at}
+use Rattle.serve_loop.specs.Law.{wire_of}
+use Rattle.serve_core.specs.ClientRequests.{RuleValue, rule_view}
+use Rattle.serve_core.specs.Fronts.{FrontsRun, FrontsValue}
+use Rattle.serve_core.specs.Headline.{ServerHeadline, core_calls}
+use Rattle.serve_core.specs.Turns.{ServerStep, ServerTurn}
+use Rattle.serve_core.specs.declared.served.Served.{Served}
+use Rattle.serve_core.specs.declared.served.Served.TheVariants.{AsSent, Mapped}
+
+-- the headline of a server by this rule, with this configuration and so many places, of all that happened on its wire
+pub record MappedHeadline (rule : RuleValue) (c : ConfigValue) (n : ℕ) (wire : List ServerStep) : Type 0 where
+  -- the events on the wire were taken by the service in order, each once
+  pub turns : List ServerTurn
+  pub wire_is : wire ≡ wire_of turns
+  -- a stream opens where none is open, and all else happens to an open one
+  pub orderly : IsOrderly wire
+  -- what was sent on a stream since it opened, and after it what waits, is what was answered on it since then
+  pub in_order : (s : Stream) → answered_at s turns ≡ sent_at s turns ++ waiting_at s turns
+  -- what is answered on a connection are the answers to the asks in its bytes: for each, the core's to the request of the
+  -- client that the rule gives, or that of a request for which the rule gives none
+  pub fronts : FrontsValue
+  pub run : FrontsRun rule turns fronts
+  -- the headline holds of the events of each place of the core, which are those of the clients' connections, with those
+  -- of the update stream, and of the core's answers to them
+  pub each : (k : ℕ) → k < n → Headline c (events_of (calls_at k (core_calls fronts.core.turns)))
+      (outputs_of (calls_at k (core_calls fronts.core.turns)))
+
+-- the headline of what a server serves
+abbrev pub ServedHeadline : Served → List ServerStep → Type 0
+ServedHeadline (AsSent service) wire = let w = worker_view service.worker in
+    ServerHeadline w.core.client.config (length w.core.conns) wire
+ServedHeadline (Mapped service) wire = let w = worker_view service.fronts.core.worker in
+    MappedHeadline (rule_view service.fronts.rule) w.core.client.config (length w.core.conns) wire

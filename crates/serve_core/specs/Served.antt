@@ -1,0 +1,22 @@
+-- The turns of what a server serves (this project's own).
+use Rattle.std.specs.Prelude.{ℕ, List}
+use Rattle.serve_loop.specs.declared.stream.Stream.{Stream}
+use Rattle.serve_core.specs.Turns.{ServerTurn, room_for}
+use Rattle.serve_core.specs.declared.served.Served.{Served}
+use Rattle.serve_core.specs.declared.served.Served.TheVariants.{AsSent, Mapped}
+use Rattle.serve_core.specs.declared.worker_service.WorkerService.{WorkerService}
+
+-- the turns of the service
+abbrev pub served_turns : Served → List ServerTurn
+served_turns (AsSent service) = service.trace.turns
+served_turns (Mapped service) = service.trace.turns
+
+-- how many bytes of a stream the service takes
+abbrev pub served_takes : Served → Stream → ℕ
+served_takes (AsSent service) stream = room_for stream service.room
+served_takes (Mapped service) stream = room_for stream service.fronts.core.room
+
+-- its core
+abbrev pub served_core : Served → WorkerService
+served_core (AsSent service) = service
+served_core (Mapped service) = service.fronts.core
