@@ -21,7 +21,7 @@ FLOOD, SLOW_FLOOD = 16 * MIB, MIB // 8
 # what an attack may take beside what the server had: the window of 1 MiB, a message of 1 MiB, their copies, and the heap's pages
 MOST_GROWN = 8 * MIB
 # the seconds of the server's processor that a client may wait for an answer
-MOST_WORKED = 0.25
+MOST_WORKED = 1
 # the octets that a client announces as the window of its call and of its connection
 WINDOW = 1_048_581
 NAMES = {PROTOCOL: "PROTOCOL_ERROR", FLOW: "FLOW_CONTROL_ERROR", SIZE: "FRAME_SIZE_ERROR", COMPRESSION: "COMPRESSION_ERROR",
