@@ -13,6 +13,7 @@ import shlex
 import socket
 import subprocess
 import sys
+import tempfile
 import time
 
 UNIT, DOC = pathlib.Path("/lib/systemd/system/rbacd.service"), pathlib.Path("/usr/share/doc/rbacd")
@@ -23,7 +24,7 @@ HEAD = b"GET /about HTTP/1.1\r\nHost: h\r\n"
 
 class Trial:
     def __init__(self):
-        self.wrong, self.server = 0, None
+        self.wrong, self.server, self.room = 0, None, pathlib.Path(tempfile.mkdtemp())
 
     def same(self, what, got, wanted):
         self.wrong += got != wanted
@@ -57,8 +58,9 @@ class Trial:
 
     def serves(self):
         self.same("before policies: /ready, a request", (status(ADMIN, "/ready"), status(FRONT, "/about")), (503, 503))
-        self.runs("policy encode and wrap", "policy encode examples/condition.yaml -o /tmp/f.bin && "
-                  "policy wrap --name f --version 1 /tmp/f.bin -o /tmp/f.response && mv /tmp/f.response /etc/rbacd/policies.bin")
+        self.runs("policy encode and wrap", f"policy encode examples/condition.yaml -o {self.room}/f.bin && "
+                  f"policy wrap --name f --version 1 {self.room}/f.bin -o {self.room}/f.response && "
+                  f"mv {self.room}/f.response /etc/rbacd/policies.bin")
         self.same("with policies: /ready", until(lambda: status(ADMIN, "/ready") == 200), True)
         self.same("/about, /admin, //about", [status(FRONT, path) for path in ("/about", "/admin", "//about")], [200, 403, 400])
         owner = pathlib.Path(f"/proc/{self.server.pid}").stat().st_uid
@@ -108,10 +110,11 @@ class Trial:
 
     def programs(self):
         text = (DOC / "docs/EMBEDDING.md").read_text()
-        pathlib.Path("/tmp/ten.c").write_text(re.search(r"(?s)```c\n(.*?)```", text)[1])
-        self.runs("a program with the shared library", "cc -o /tmp/ten /tmp/ten.c $(pkg-config --cflags --libs vupresal) && /tmp/ten", "allow\n")
-        self.runs("it needs libvupresal.so.0", "ldd /tmp/ten", "libvupresal.so.0")
-        self.runs("a program with the static library", "cc -o /tmp/ten /tmp/ten.c -l:libvupresal.a && /tmp/ten", "allow\n")
+        ten = self.room / "ten"
+        ten.with_suffix(".c").write_text(re.search(r"(?s)```c\n(.*?)```", text)[1])
+        self.runs("a program with the shared library", f"cc -o {ten} {ten}.c $(pkg-config --cflags --libs vupresal) && {ten}", "allow\n")
+        self.runs("it needs libvupresal.so.0", f"ldd {ten}", "libvupresal.so.0")
+        self.runs("a program with the static library", f"cc -o {ten} {ten}.c -l:libvupresal.a && {ten}", "allow\n")
         self.runs("policy check", "policy check examples/condition.yaml", "admitted: policies 1")
         self.runs("policy test", "policy test examples/policies/condition.tests.yaml")
         self.runs("rbacd-bridge --help", "rbacd-bridge --help", "--control")
