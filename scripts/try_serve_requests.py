@@ -1,5 +1,7 @@
 """What a server answers, on one connection and on many, and what it does at its capacity."""
 import contextlib
+import os
+import signal
 import socket
 import threading
 import time
@@ -72,6 +74,10 @@ def ends(case):
     server.ends("a coding", [(PLAIN[:-2] + b"Transfer-Encoding: chunked\r\n\r\n0\r\n\r\n", faulty(b"501 Not Implemented", 1))])
     last = b"GET x HTTP/1.1\r\nHost: h\r\n\r\n"
     server.ends("requests and then a fault", [(PLAIN * 3 + last, yes * 3 + faulty(b"400 Bad Request", 1))])
+    server.ends("a fault and then requests", [(last + PLAIN * 3, faulty(b"400 Bad Request", 1))])
+    peer = server.answers("a fault", [(last, faulty(b"400 Bad Request", 1))])
+    peer.sendall(PLAIN * 3)
+    case.same("and requests later", heard(peer, 1), b"")
     server.answers("the longest head", [(long_head(65_536), yes)]).close()
     server.ends("a byte more", [(long_head(65_537), told(TOO_LARGE, 1))])
     server.ends("a head without an end", [(PLAIN[:-2] + b"a: " + b"b" * 65_537, told(TOO_LARGE, 1))])
@@ -116,6 +122,29 @@ def many(case):
         thread.join(20)
     slow.sendall(PLAIN[2:])
     case.same("the slow one", heard(slow, len(yes)), yes)
+
+
+def turns(case):
+    """One client sends many requests at once, and five others one each: each has one decision in turn."""
+    server, _, _ = case.ready(access_log={"path": "decisions"})
+    yes, count = allowed(b"0", 1), 32_200 // len(PLAIN)
+    many, *others = peers = [server.connect() for _ in range(6)]
+    for number, peer in enumerate(peers):
+        server.answers(f"connection {number}", [(PLAIN, yes)], peer)
+    os.kill(server.process.pid, signal.SIGSTOP)
+    many.sendall(PLAIN * count)
+    for peer in others:
+        peer.sendall(PLAIN)
+    os.kill(server.process.pid, signal.SIGCONT)
+    for peer in others:
+        case.same("one of the others", heard(peer, len(yes)), yes)
+    case.same("the many", heard(many, len(yes) * count), yes * count)
+    wanted = count + 2 * len(others) + 1
+    case.until("each decision is logged", lambda: len(server.logged("decisions")) == wanted, 30)
+    places = [it["connection"] for it in server.logged("decisions")[len(peers):]]
+    for number in range(1, len(peers)):
+        at = places.index(number) if number in places else None
+        case.holds(f"connection {number} is among the first", at is not None and at < 2 * len(peers), at)
 
 
 def trickle(peer, done):
@@ -201,4 +230,4 @@ def timed_out_after(peer, seconds):
         peer.settimeout(10)
 
 
-CASES = {it.__name__: it for it in (answers, bodies, ends, many, capacity, descriptors)}
+CASES = {it.__name__: it for it in (answers, bodies, ends, many, turns, capacity, descriptors)}

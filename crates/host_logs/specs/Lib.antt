@@ -1,2 +1,9 @@
 pub mod Names
 pub mod Places
+pub mod Sampling
+pub mod Numbers
+pub mod Counting
+pub mod Losses
+pub mod Entries
+pub mod Decisions
+pub mod Responses

@@ -1,14 +1,19 @@
-//! What a server logs: the decisions on its connections, and the responses of its control plane.
+//! What observes a server: each event is counted, logged and recorded.
 #![tactic(auto)]
 
-mod accesses;
+mod access_log;
 mod clocks;
 mod connections;
 mod logs;
+mod metrics;
+mod observers;
+mod record;
 mod responses;
+mod sample;
+mod status;
+mod update_log;
 
-pub use accesses::{Accesses, DecisionContext, Unjudged, verdict_of};
+pub use access_log::Accesses;
 pub use clocks::{micros, unix_millis};
-pub use connections::{Connection, Connections};
 pub use logs::Logs;
-pub use responses::{RefusalCause, accepted_update, places_of};
+pub use observers::Observers;

@@ -1,6 +1,6 @@
 //! The logs of a server.
 
-use crate::accesses::Accesses;
+use crate::access_log::Accesses;
 use serve_log::{LogFile, LogFiles, Recorder};
 
 /// The logs of a server.

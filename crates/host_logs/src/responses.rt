@@ -1,15 +1,16 @@
 //! The judgements of a control plane's responses, for the log of updates and the status.
 ghost use Rattle.std.specs.Prelude.{◌≡◌, IfOk};
 ghost use Rattle.host_logs.specs.Places.{places_from};
+ghost use Rattle.host_logs.specs.Responses.{SaysAccepted, SaysRefused};
 
-use ads::{Config, Judgement, Refused};
+use ads::{Client, Judgement, Refused};
 use fault_texts::{ResponseFault, fault_of};
 use proto_wire::Refusal;
 use serve_log::{Acknowledged, Update};
 use std::alloc::{AllocError, Global};
 
 /// The places in the configuration of the filters to which a response gave policies.
-pub fn places_of(alloc: Global, given: &[bool]) -> Result<Vec<usize>, AllocError>
+pub(crate) fn places_of(alloc: Global, given: &[bool]) -> Result<Vec<usize>, AllocError>
     ensures { IfOk result (λ places. places.items ≡ places_from 0 given.now) }
 {
     let mut places = Vec::new(alloc);
@@ -21,26 +22,28 @@ pub fn places_of(alloc: Global, given: &[bool]) -> Result<Vec<usize>, AllocError
     Ok(places)
 }
 
-/// Why a response was refused.
-#[derive(Drop)]
-pub struct RefusalCause<'a> {
-    /// The refusal that the client answered.
-    pub reason: Refusal,
-    /// What it means, in words.
-    pub cause: String,
-    /// The part of the response that it is about.
-    pub fault: ResponseFault<'a>,
+/// A response that was judged.
+#[derive(Clone, Copy)]
+pub(crate) struct JudgedResponse<'a> {
+    /// How the client judged it.
+    pub(crate) judgement: &'a Judgement,
+    /// The client, after it.
+    pub(crate) client: &'a Client,
+    /// How long that took, in microseconds.
+    pub(crate) micros: u64,
+    /// When it ended, in milliseconds since 1970.
+    pub(crate) time: u64,
 }
 
-impl<'a> RefusalCause<'a> {
-    /// Why a client with this configuration refused a response.
-    pub fn of(
+impl<'a> JudgedResponse<'a> {
+    /// Why the client refused it.
+    pub(crate) fn refusal_cause(
+        &self,
         alloc: Global,
         refused: &Refused,
-        config: &'a Config,
     ) -> Result<RefusalCause<'a>, AllocError> {
         let reason = refused.fault.refusal;
-        let fault = fault_of(alloc, refused, config);
+        let fault = fault_of(alloc, refused, self.client.config());
         let cause = fault.part.meaning(reason).to_string(alloc)?;
         Ok(RefusalCause {
             reason,
@@ -48,34 +51,46 @@ impl<'a> RefusalCause<'a> {
             fault,
         })
     }
+}
 
-    /// What the log of updates says of it.
-    pub fn update<'u>(
-        &'u self,
-        judgement: &'u Judgement,
-        generation: u64,
-        milliseconds: u64,
-    ) -> Update<'u> {
+/// Why a response was refused.
+#[derive(Drop)]
+pub(crate) struct RefusalCause<'a> {
+    /// The refusal that the client answered.
+    pub(crate) reason: Refusal,
+    /// What it means, in words.
+    pub(crate) cause: String,
+    /// The part of the response that it is about.
+    pub(crate) fault: ResponseFault<'a>,
+}
+
+impl RefusalCause<'_> {
+    /// What the log of updates says of the response that was refused for it.
+    pub(crate) fn update<'u>(&'u self, judged: &JudgedResponse<'u>) -> Update<'u>
+        ensures { SaysRefused judged.now self.now result }
+    {
         Update::Refused(serve_log::Refused {
-            version: judgement.version.as_str(),
-            nonce: judgement.nonce.as_str(),
-            generation,
+            version: judged.judgement.version.as_str(),
+            nonce: judged.judgement.nonce.as_str(),
+            generation: judged.client.generation(),
             number: self.reason.number(),
             name: self.reason.name(),
             cause: self.cause.as_str(),
             filter: self.fault.filter,
             place: self.fault.part.place.as_deref(),
-            milliseconds,
+            milliseconds: judged.micros / 1_000,
         })
     }
 }
 
 /// What the log of updates says of a response that was accepted.
-pub fn accepted_update(judgement: &Judgement, generation: u64, milliseconds: u64) -> Update<'_> {
+pub(crate) fn accepted_update<'u>(judged: &JudgedResponse<'u>) -> Update<'u>
+    ensures { SaysAccepted judged.now result }
+{
     Update::Accepted(Acknowledged {
-        version: judgement.version.as_str(),
-        nonce: judgement.nonce.as_str(),
-        generation,
-        milliseconds,
+        version: judged.judgement.version.as_str(),
+        nonce: judged.judgement.nonce.as_str(),
+        generation: judged.client.generation(),
+        milliseconds: judged.micros / 1_000,
     })
 }

@@ -2,17 +2,13 @@
 #![tactic(auto)]
 
 mod errors;
-mod front_faults;
-mod fronts;
-mod judgements;
-mod judging;
+mod facts;
 mod loop_settings;
-mod mapped;
 mod network;
-mod observed;
+mod piece;
 mod process;
-mod rule;
+mod request_reader;
+mod streams;
 mod upkeep;
-mod words;
 
 pub use process::{HostFault, host};

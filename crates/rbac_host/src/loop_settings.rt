@@ -1,10 +1,18 @@
 //! The settings of the server's loop, taken from those of the server.
+ghost use Rattle.std.specs.Prelude.{◌≡◌};
 
-use rbac_serve::Settings;
 use serve_config::ServeConfig;
+use serve_loop::Settings;
 
 /// The settings of the loop.
-pub(crate) fn loop_settings(settings: &ServeConfig) -> Settings {
+pub(crate) fn loop_settings(settings: &ServeConfig) -> Settings
+    ensures waiting { result.pending ≡ settings.now.pending }
+    ensures times { (result.head ≡ settings.now.timeouts.head) × (result.idle ≡ settings.now.timeouts.idle)
+        × (result.write ≡ settings.now.timeouts.write) × (result.drain ≡ settings.now.timeouts.drain) }
+    ensures updates { (result.first_backoff ≡ settings.now.first_backoff)
+        × (result.greatest_backoff ≡ settings.now.greatest_backoff) × (result.refusal_pause ≡ settings.now.nack_pause)
+        × (result.first_message ≡ settings.now.timeouts.first_response) }
+{
     Settings {
         pending: settings.pending,
         head: settings.timeouts.head,
@@ -13,7 +21,7 @@ pub(crate) fn loop_settings(settings: &ServeConfig) -> Settings {
         drain: settings.timeouts.drain,
         first_backoff: settings.first_backoff,
         greatest_backoff: settings.greatest_backoff,
-        nack_pause: settings.nack_pause,
-        first_response: settings.timeouts.first_response,
+        refusal_pause: settings.nack_pause,
+        first_message: settings.timeouts.first_response,
     }
 }

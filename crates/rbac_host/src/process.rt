@@ -1,24 +1,26 @@
 //! Runs a server until it is to end.
+ghost use Rattle.std.specs.Prelude.{◌≡◌, [], true, IfOk, OnOk};
+ghost use Rattle.serve_loop.specs.History.{is_told};
+ghost use Rattle.serve_loop.specs.Law.{Belong};
+ghost use Rattle.serve_core.specs.Served.{served_turns};
 
 use crate::errors::{errors_of, taken_streams};
 use crate::loop_settings::loop_settings;
-use crate::mapped::MappedWorker;
 use crate::network::HostNetwork;
-use crate::observed::ObservedWorker;
-use crate::rule::MappingRule;
-use crate::upkeep::Upkeep;
+use crate::upkeep::{HostUpkeep, UsesMemory};
 use admin_port::AdminPort;
 use ads::Config;
 use attributes::Conn;
-use host_logs::{Accesses, Connections, Logs, micros, unix_millis};
-use rbac_serve::{Server, Worker};
+use host_logs::{Accesses, Logs, Observers, unix_millis};
 use serve_admin::{Admin, FilterStatus};
 use serve_config::{Record, ServeConfig};
+use serve_core::{MappingRule, Served};
 use serve_log::{LogFile, RecordSettings, Recorder};
+use serve_loop::{Board, Network, Observer, Server, Service, Upkeep};
 use serve_net::{OpenFault, Sockets};
 use std::alloc::{AllocError, Global};
 use std::hash::RandomState;
-use std::io;
+use std::io::{self, ErrorKind};
 use thiserror::Error;
 
 /// Why a server cannot begin, or cannot go on.
@@ -53,52 +55,140 @@ pub fn host(
     conn: Conn,
     settings: ServeConfig,
 ) -> Result<(), HostFault> {
+    host_by(alloc, rt, &config, conn, &settings)
+}
+
+// The same, by settings that live as long as the server.
+fn host_by<'m, 'r>(
+    alloc: Global,
+    rt: &'r HostRuntime,
+    config: &Config,
+    conn: Conn,
+    settings: &'m ServeConfig,
+) -> Result<(), HostFault> {
     let _streams = taken_streams(alloc, rt)?;
-    let sockets = Sockets::open(alloc, rt, &settings)?;
-    let observed = observed_of(alloc, rt, &config, &settings)?;
-    let mut mapped = MappedWorker::new(alloc, observed, MappingRule::of(&settings))?;
-    let mut network = HostNetwork::new(alloc, sockets, conn);
-    let mut port = AdminPort::new(alloc, RandomState::new(rt).map_err(HostFault::Wait)?)?;
-    let mut server = Server::new(alloc, settings.connections, &loop_settings(&settings))?;
-    let record = match &settings.record {
-        Some(record) => Some(String::from_str(alloc, record.path.as_str())?),
-        None => None,
-    };
-    let mut upkeep = Upkeep::new(errors_of(rt), record);
-    let mut ready = Vec::new(alloc);
+    let network = network_of(alloc, rt, conn, settings)?;
+    let observers = observers_of(alloc, rt, config, settings)?;
+    let served = served_of(alloc, config, settings)?;
+    let upkeep = upkeep_of(alloc, rt, settings)?;
+    let server = server_of(alloc, network, served, observers, settings)?;
+    run(server, upkeep)
+}
+
+type HostObservers<'r> = Observers<'r, HostRuntime, &'r HostRuntime>;
+
+type HostServer<'m, 'r> = Server<Conn, HostNetwork<'r, HostRuntime>, Served<'m>, HostObservers<'r>>;
+
+// The sockets of these settings, of which nothing was used yet.
+fn network_of<'r>(
+    alloc: Global,
+    rt: &'r HostRuntime,
+    conn: Conn,
+    settings: &ServeConfig,
+) -> Result<HostNetwork<'r, HostRuntime>, HostFault>
+    ensures { IfOk result (λ network. network.trace.turns ≡ []) }
+{
+    let sockets = Sockets::open(alloc, rt, settings)?;
+    Ok(HostNetwork::new(alloc, rt, sockets, conn, settings.connections)?)
+}
+
+// The core by these settings, to which nothing happened yet.
+fn served_of<'m>(
+    alloc: Global,
+    config: &Config,
+    settings: &'m ServeConfig,
+) -> Result<Served<'m>, AllocError>
+    ensures { IfOk result (λ served. served_turns served ≡ []) }
+{
+    Served::new(
+        alloc,
+        config,
+        settings.connections,
+        MappingRule::of(settings),
+    )
+}
+
+// The loop over these three, to which nothing happened yet.
+fn server_of<'m, 'r>(
+    alloc: Global,
+    network: HostNetwork<'r, HostRuntime>,
+    served: Served<'m>,
+    observers: HostObservers<'r>,
+    settings: &ServeConfig,
+) -> Result<HostServer<'m, 'r>, HostFault>
+    requires network { network.trace.turns ≡ [] }
+    requires served { served_turns served ≡ [] }
+    requires observers { observers.trace.turns ≡ [] }
+{
+    let places = settings.connections;
+    let board = Board::new(alloc, places, network, served, observers)?;
+    Ok(Server::new(alloc, places, board, &loop_settings(settings))?)
+}
+
+// Serves with this server and this upkeep, which are dropped then.
+fn run<
+    N: Network<Conn>,
+    S: Service<Conn>,
+    O: Observer<Conn, S>,
+    U: Upkeep<Conn, N, S, O> + UsesMemory + Drop,
+>(mut server: Server<Conn, N, S, O>, mut upkeep: U) -> Result<(), HostFault> {
+    serve(&mut server, &mut upkeep)
+}
+
+// Serves until the server is to end. It returns without a fault only after the network said that. What is on the wire is
+// what the service took and what was sent of its answers, and the observers saw it.
+fn serve<
+    N: Network<Conn>,
+    S: Service<Conn>,
+    O: Observer<Conn, S>,
+    U: Upkeep<Conn, N, S, O> + UsesMemory,
+>(server: &mut Server<Conn, N, S, O>, upkeep: &mut U) -> Result<(), HostFault>
+    ensures told { OnOk result (is_told (N.wire server.new.board.parties.network) ≡ true) }
+    ensures law { ∥ Belong (N.wire server.new.board.parties.network) (S.turns server.new.board.parties.service)
+        (O.seen server.new.board.parties.observer) ∥₁ }
+{
     for _ in 0..u64::MAX {
-        let goes_on = server
-            .turn(&mut network, &mut mapped, &mut ready)
-            .map_err(HostFault::Wait)?;
-        let now = micros(rt) / 1_000;
-        network.serve_admin(&mut port, &mut mapped.observed.admin, now)?;
-        upkeep.turn(&mut network, &mut mapped.observed, now);
-        if !goes_on {
+        let goes_on = server.turn().map_err(HostFault::Wait)?;
+        server.keep_up(upkeep);
+        if upkeep.lacks_memory() {
+            return Err(HostFault::Memory(AllocError));
+        }
+        if !goes_on && server.board().is_ending() {
             return Ok(());
         }
     }
-    Ok(())
+    Err(HostFault::Wait(ErrorKind::Other.into()))
 }
 
-// The worker with its logs.
-fn observed_of<'r>(
+// Those who see what happens: the status, the metrics and the logs.
+fn observers_of<'r>(
     alloc: Global,
     rt: &'r HostRuntime,
     config: &Config,
     settings: &ServeConfig,
-) -> Result<ObservedWorker<'r, HostRuntime, &'r HostRuntime>, HostFault> {
+) -> Result<HostObservers<'r>, HostFault>
+    ensures { IfOk result (λ observers. observers.trace.turns ≡ []) }
+{
     let node = String::from_str(alloc, config.node())?;
     let filters = filters_of(alloc, config)?;
-    Ok(ObservedWorker {
-        alloc,
-        rt,
-        worker: Worker::new(alloc, config, settings.connections)?,
-        connections: Connections::new(alloc, settings.connections)?,
-        admin: Admin::new(alloc, node, unix_millis(rt), filters)?,
-        logs: logs_of(alloc, rt, config, settings)?,
-        decisions: 0,
-        refused: None,
-    })
+    let admin = Admin::new(alloc, node, unix_millis(rt), filters)?;
+    let logs = logs_of(alloc, rt, config, settings)?;
+    Ok(Observers::new(alloc, rt, settings.connections, admin, logs)?)
+}
+
+// What is done between turns.
+fn upkeep_of<'r>(
+    alloc: Global,
+    rt: &'r HostRuntime,
+    settings: &ServeConfig,
+) -> Result<HostUpkeep<'r, HostRuntime>, HostFault> {
+    let keys = RandomState::new(rt).map_err(HostFault::Wait)?;
+    let port = AdminPort::new(alloc, keys)?;
+    let record = match &settings.record {
+        Some(record) => Some(String::from_str(alloc, record.path.as_str())?),
+        None => None,
+    };
+    Ok(HostUpkeep::new(rt, port, errors_of(rt), record))
 }
 
 // What the status says of the filters before they have policies.

@@ -1,12 +1,18 @@
-//! What is done after each turn of the loop: logs are written, and the status is brought up to date.
+//! What is done between the turns of the loop: the admin port is served, logs are written, and the status is brought up
+//! to date.
+ghost use Rattle.std.specs.Prelude.{◌≤◌, ◌-◌, ◌↔◌, ⊤, IsTrue, MatchOption};
 
 use crate::network::HostNetwork;
-use crate::observed::ObservedWorker;
-use serve_admin::AdminAction;
-use serve_log::{LogFiles, LogWriter, Update};
+use admin_port::AdminPort;
+use attributes::Conn;
+use host_logs::{Logs, Observers};
+use serve_admin::{Admin, AdminAction};
+use serve_core::Served;
+use serve_log::{LogFiles, LogWriter};
+use serve_loop::Upkeep;
 use std::alloc::AllocError;
 use std::fs::{self, File, Files};
-use std::io::{ErrorKind, Input, Read, Write};
+use std::io::{self, ErrorKind, Input, Read, Write};
 use std::net::Net;
 use std::rt::Clock;
 
@@ -19,9 +25,13 @@ const LOGS: u8 = 3;
 /// The size of a page of memory in bytes, on x86-64.
 const PAGE: u64 = 4_096;
 
-/// When something was last done.
+/// The admin port, and when something was last done.
 #[derive(Drop)]
-pub(crate) struct Upkeep {
+pub(crate) struct HostUpkeep<'r, R: Files> {
+    rt: &'r R,
+    port: AdminPort,
+    // whether memory ran out at the admin port
+    lacks_memory: bool,
     errors: LogWriter,
     // the path of the record, if there is one
     record: Option<String>,
@@ -35,10 +45,18 @@ pub(crate) struct Upkeep {
     dropped: u64,
 }
 
-impl Upkeep {
+impl<'r, R: Files> HostUpkeep<'r, R> {
     /// Complaints go to this writer. The record has this path, if there is one.
-    pub(crate) fn new(errors: LogWriter, record: Option<String>) -> Upkeep {
-        Upkeep {
+    pub(crate) fn new(
+        rt: &'r R,
+        port: AdminPort,
+        errors: LogWriter,
+        record: Option<String>,
+    ) -> HostUpkeep<'r, R> {
+        HostUpkeep {
+            rt,
+            port,
+            lacks_memory: false,
             errors,
             record,
             missed: None,
@@ -48,58 +66,22 @@ impl Upkeep {
         }
     }
 
-    /// Does what was asked at the admin port, and writes the logs. Times are in milliseconds since a fixed time.
-    pub(crate) fn turn<R: Net + Files + Clock + Input, F: LogFiles + Drop>(
-        &mut self,
-        network: &mut HostNetwork<'_, R>,
-        observed: &mut ObservedWorker<'_, R, F>,
-        now: u64,
-    ) {
-        match observed.admin.take_action() {
-            Some(AdminAction::Drain) => network.drains = true,
-            Some(AdminAction::Reopen) => observed.logs.reopen(),
-            None => {}
-        }
-        if let Some(cause) = network.take_unreached() {
-            observed.log_update(&Update::Unreachable(cause.as_str()));
-        }
-        if let Some(cause) = network.take_end_words() {
-            observed.log_update(&Update::Ended(cause.as_str()));
-        }
-        observed.admin.status.drains = network.drains;
-        observed.admin.metrics.tick(now);
-        observed.logs.flush(now);
-        if now.saturating_sub(self.looked) >= PAUSE {
-            self.looked = now;
-            self.look(observed, now);
-            self.seek(observed, now);
-        }
-    }
-
     // Begins a new file of the record if its path has none any more.
-    fn seek<R: Net + Files + Clock + Input, F: LogFiles + Drop>(
-        &mut self,
-        observed: &mut ObservedWorker<'_, R, F>,
-        now: u64,
-    ) {
+    fn seek<F: LogFiles + Drop>(&mut self, logs: &mut Logs<F>, now: u64) {
         let Some(path) = &self.record else {
             return;
         };
-        let is_gone = match fs::metadata(observed.rt, path.as_str()) {
+        let is_gone = match fs::metadata(self.rt, path.as_str()) {
             Ok(_) => false,
             Err(error) => error.kind() == ErrorKind::NotFound,
         };
         if !is_gone {
             return;
         }
-        if let Some(recorder) = &mut observed.logs.recorder {
+        if let Some(recorder) = &mut logs.recorder {
             recorder.reopen();
         }
-        let is_silent = match self.missed {
-            Some(missed) => now.saturating_sub(missed) < SILENCE,
-            None => false,
-        };
-        if !is_silent {
+        if is_due(self.missed, now) {
             self.missed = Some(now);
             let _ = writeln!(
                 self.errors,
@@ -108,42 +90,94 @@ impl Upkeep {
         }
     }
 
-    // Tells what went wrong, and reads the memory that the process takes.
-    fn look<R: Net + Files + Clock + Input, F: LogFiles + Drop>(
-        &mut self,
-        observed: &mut ObservedWorker<'_, R, F>,
-        now: u64,
-    ) {
-        if let Ok(pages) = resident_pages(observed.rt) {
-            observed.admin.status.resident_memory = pages.saturating_mul(PAGE);
+    // Counts the lines that were dropped, reports what is wrong with logs, and reads the memory that the process takes.
+    fn look<F: LogFiles + Drop>(&mut self, admin: &mut Admin, logs: &mut Logs<F>, now: u64) {
+        if let Ok(pages) = resident_pages(self.rt) {
+            admin.status.resident_memory = pages.saturating_mul(PAGE);
         }
-        let dropped = observed.logs.dropped();
-        observed
-            .admin
+        let dropped = logs.dropped();
+        admin
             .metrics
             .dropped_lines(dropped.saturating_sub(self.dropped));
         self.dropped = dropped;
         for _ in 0..LOGS {
-            if let Some(fault_report) = observed.logs.fault_report(now) {
+            if let Some(fault_report) = logs.fault_report(now) {
                 let _ = writeln!(self.errors, "{fault_report}");
             }
         }
-        let is_silent = match self.reported {
-            Some(reported) => now.saturating_sub(reported) < SILENCE,
-            None => false,
-        };
-        if is_silent {
+    }
+
+    // Reports why a connection could not be accepted.
+    fn complain(&mut self, cause: &io::Error, now: u64) {
+        self.reported = Some(now);
+        let _ = writeln!(self.errors, "cannot accept connections: {cause}");
+    }
+}
+
+/// What needs memory, and may not get it.
+pub(crate) trait UsesMemory {
+    /// Whether memory ran out.
+    fn lacks_memory(&self) -> bool;
+}
+
+impl<'r, R: Files> UsesMemory for HostUpkeep<'r, R> {
+    fn lacks_memory(&self) -> bool {
+        self.lacks_memory
+    }
+}
+
+impl<'m, 'r, R: Net + Files + Clock + Input, F: LogFiles + Drop> Upkeep<
+    Conn,
+    HostNetwork<'r, R>,
+    Served<'m>,
+    Observers<'r, R, F>,
+> for HostUpkeep<'r, R> {
+    fn turn(
+        &mut self,
+        network: &mut HostNetwork<'r, R>,
+        _service: &Served<'m>,
+        observer: &mut Observers<'r, R, F>,
+        now: u64,
+    ) {
+        let served = network.serve_admin(&mut self.port, &mut observer.admin, now);
+        self.lacks_memory = served.is_err();
+        match observer.admin.take_action() {
+            Some(AdminAction::Drain) => network.drains = true,
+            Some(AdminAction::Reopen) => observer.logs.reopen(),
+            None => {}
+        }
+        if let Some(cause) = network.take_end_words() {
+            observer.log_end(cause.as_str());
+        }
+        observer.admin.status.drains = network.drains;
+        observer.admin.metrics.tick(now);
+        observer.logs.flush(now);
+        if now.saturating_sub(self.looked) < PAUSE {
             return;
         }
-        if let Some(cause) = observed.refused.take() {
-            self.reported = Some(now);
-            let _ = writeln!(self.errors, "cannot accept connections: {cause}");
+        self.looked = now;
+        self.look(&mut observer.admin, &mut observer.logs, now);
+        if is_due(self.reported, now) {
+            if let Some(cause) = observer.refused() {
+                self.complain(&cause, now);
+            }
         }
+        self.seek(&mut observer.logs, now);
+    }
+}
+
+// Whether something is to be reported that was last reported at this time, if it was.
+fn is_due(last: Option<u64>, now: u64) -> bool
+    ensures { IsTrue result ↔ MatchOption last ⊤ (λ time. 60000 ≤ now - time) }
+{
+    match last {
+        Some(last) => now.saturating_sub(last) >= SILENCE,
+        None => true,
     }
 }
 
 // How many pages of memory the process takes: the second number of this file of the system.
-fn resident_pages<R: Files>(rt: &R) -> std::io::Result<u64> {
+fn resident_pages<R: Files>(rt: &R) -> io::Result<u64> {
     let mut room = [0u8; 128];
     let count = File::open(rt, "/proc/self/statm")?.read(&mut room)?;
     let text = str::from_utf8(room.get(..count).unwrap_or(&[])).unwrap_or("");

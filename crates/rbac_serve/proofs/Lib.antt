@@ -1,4 +1,3 @@
-pub mod OtherProtocolLemmas
 pub mod PlaceLemmas
 pub mod Turning
 pub mod Order

@@ -1,5 +1,4 @@
 pub mod Sending
-pub mod OtherProtocols
 pub mod Tables
 pub mod Turns
 pub mod Workers

@@ -1,0 +1,334 @@
+//! What sees each event of a server: it is counted, logged and recorded. None of that has an effect on the service.
+ghost use Rattle.std.specs.Prelude.{◌≡◌, [], ◌∷◌, IfOk};
+ghost use Rattle.serve_loop.specs.Events.{event_view};
+ghost use Rattle.serve_loop.specs.Law.{events_of};
+
+use crate::access_log::DecisionContext;
+use crate::clocks::{micros, unix_millis};
+use crate::connections::Connections;
+use crate::logs::Logs;
+use crate::metrics::{closed_of, count_decision, count_judgement, count_unjudged};
+use crate::record::{Entry, client_entries, entry_of, record};
+use crate::responses::JudgedResponse;
+use crate::sample::Sample;
+use crate::status::{note_judgement, note_loss, note_up};
+use crate::update_log::{BytesEnd, Loss, bytes_end, log_judgement, log_loss, log_update, loss_of};
+use ads::Client;
+use attributes::Conn;
+use http_front::Reply;
+use proxy_core::AnsweredAsk;
+use serve_admin::Admin;
+use serve_core::{ClientRequest, FrontAnswer, MappedService, Served, Unjudged, WorkerService};
+use serve_log::{LogFiles, RecordPosition, Update};
+use serve_loop::{CloseReason, Event, Failed, Observer, Outcome, Stream};
+use serve_trace::{Note, Trace};
+use std::alloc::{AllocError, Global};
+use std::io;
+use std::rt::Clock;
+
+/// The steps of one in so many decisions are counted.
+const STEPS_SAMPLE: u64 = 64;
+
+/// What sees each event of a server: the counters and the status, the logs, and the record.
+#[derive(Drop)]
+pub struct Observers<'r, R: Clock, F: LogFiles + Drop> {
+    alloc: Global,
+    rt: &'r R,
+    /// The counters and the status.
+    pub admin: Admin,
+    /// The logs and the record.
+    pub logs: Logs<F>,
+    connections: Connections,
+    // the decisions whose steps are counted
+    sample: Sample,
+    // why the last bytes of the update stream end it
+    end: Option<BytesEnd>,
+    // when an event of the update stream was last seen, in microseconds
+    looked: u64,
+    // why a connection could not be accepted, if that was not reported yet
+    refused: Option<io::Error>,
+    trace: Trace<Conn>,
+}
+
+impl<'r, R: Clock, F: LogFiles + Drop> Observers<'r, R, F> {
+    /// Nothing has happened to the server, which has so many places for connections.
+    pub fn new(
+        alloc: Global,
+        rt: &'r R,
+        places: usize,
+        admin: Admin,
+        logs: Logs<F>,
+    ) -> Result<Observers<'r, R, F>, AllocError>
+        ensures { IfOk result (λ o. o.trace.turns ≡ []) }
+    {
+        Ok(Observers {
+            alloc,
+            rt,
+            admin,
+            logs,
+            connections: Connections::new(alloc, places)?,
+            sample: Sample::new(STEPS_SAMPLE),
+            end: None,
+            looked: 0,
+            refused: None,
+            trace: Trace::new(),
+        })
+    }
+
+    /// Why a connection could not be accepted, if that was not reported yet.
+    pub fn refused(&mut self) -> Option<io::Error>
+        ensures { self.new.trace ≡ self.old.trace }
+    {
+        self.refused.take()
+    }
+
+    /// Logs why a call to a control plane of gRPC ended.
+    pub fn log_end(&mut self, cause: &str)
+        ensures { self.new.trace ≡ self.old.trace }
+    {
+        let time = unix_millis(self.rt);
+        let update = Update::Ended(cause);
+        log_update(self.alloc, &mut self.logs.updates, time, &update);
+    }
+
+    // Numbers the connection that an event opens. Without an outcome memory ran out, and the connection has no number.
+    fn number(&mut self, event: &Event<'_, Conn>, outcome: Option<Outcome>) -> u64 {
+        match (event, outcome) {
+            (Event::Accepted(k, conn), Some(outcome)) => {
+                self.connections.open(*k, conn, outcome.closes)
+            }
+            _ => 0,
+        }
+    }
+
+    // Gives an entry to the record. Returns where it has the bytes of a connection.
+    fn record(&mut self, entry: &Entry<'_, '_>) -> Option<RecordPosition> {
+        match &mut self.logs.recorder {
+            Some(recorder) => record(self.alloc, recorder, entry),
+            None => None,
+        }
+    }
+
+    // A connection was accepted.
+    fn accepted(&mut self, outcome: Option<Outcome>) {
+        self.admin.metrics.accepted();
+        if outcome.is_some() {
+            self.admin.metrics.opened();
+        }
+    }
+
+    // The connection in a place delivered bytes, which the record has here.
+    fn received(&mut self, k: usize, record: Option<RecordPosition>, service: &Served<'_>) {
+        match service {
+            Served::AsSent(worker) => self.answered(k, record, worker),
+            Served::Mapped(mapped) => self.answered_front(k, mapped),
+        }
+    }
+
+    // Requests were answered as they were sent.
+    fn answered(&mut self, k: usize, record: Option<RecordPosition>, worker: &WorkerService) {
+        for answered_ask in &worker.last().answered_asks {
+            let metrics = &mut self.admin.metrics;
+            count_decision(metrics, &mut self.sample, answered_ask, worker.client());
+            self.log_decision(k, &record, answered_ask, worker.client());
+        }
+    }
+
+    // Logs the answer to a request of the connection in a place.
+    fn log_decision(
+        &mut self,
+        k: usize,
+        record: &Option<RecordPosition>,
+        answered_ask: &AnsweredAsk,
+        client: &Client,
+    ) {
+        if let (Some(accesses), Some(connection)) = (
+            &mut self.logs.accesses,
+            self.connections.get(k),
+        ) {
+            let context = DecisionContext {
+                time: unix_millis(self.rt),
+                connection,
+                client,
+                record,
+            };
+            accesses.log_decision(answered_ask, &context);
+        }
+    }
+
+    // Requests of a front proxy were answered.
+    fn answered_front(&mut self, k: usize, mapped: &MappedService<'_>) {
+        for answer in mapped.answers() {
+            match answer {
+                FrontAnswer::Judged(request) => {
+                    self.answered_client(k, request, mapped.core().client());
+                }
+                FrontAnswer::Unjudged(unjudged, reply) => self.unjudged(k, unjudged, reply),
+            }
+        }
+    }
+
+    // The request of a client was judged, as the one of a connection of its own.
+    fn answered_client(&mut self, k: usize, request: &ClientRequest, client: &Client) {
+        let connection = self.connections.number(&request.conn, false);
+        let mut record = None;
+        for entry in &client_entries(k, connection.number, request) {
+            record = self.record(entry).or(record);
+        }
+        let answered_ask = &request.answered_ask;
+        count_decision(
+            &mut self.admin.metrics,
+            &mut self.sample,
+            answered_ask,
+            client,
+        );
+        if let Some(accesses) = &mut self.logs.accesses {
+            accesses.log_decision(
+                answered_ask,
+                &DecisionContext {
+                    time: unix_millis(self.rt),
+                    connection: &connection,
+                    client,
+                    record: &record,
+                },
+            );
+        }
+    }
+
+    // A request of a front proxy was answered without being judged.
+    fn unjudged(&mut self, k: usize, unjudged: &Unjudged, reply: &Reply) {
+        count_unjudged(&mut self.admin.metrics, unjudged.case);
+        if let (Some(accesses), Some(connection)) = (
+            &mut self.logs.accesses,
+            self.connections.get(k),
+        ) {
+            accesses.log_unjudged(unjudged, reply, connection, unix_millis(self.rt));
+        }
+    }
+
+    // The connection in a place was closed.
+    fn closed(&mut self, k: usize, reason: CloseReason) {
+        if let Some(connection) = self.connections.close(k) {
+            self.admin.metrics.closed(closed_of(&connection, reason));
+        }
+    }
+
+    // The update stream was connected. Without an outcome memory ran out, and it is closed.
+    fn connected(&mut self, outcome: Option<Outcome>) {
+        self.end = None;
+        if outcome.is_none() {
+            return;
+        }
+        let time = unix_millis(self.rt);
+        note_up(&mut self.admin.status, time);
+        log_update(self.alloc, &mut self.logs.updates, time, &Update::Up);
+        self.admin.metrics.stream(true);
+    }
+
+    // The update stream delivered bytes. Judging a response that they complete took so many microseconds.
+    fn fed(&mut self, outcome: Option<Outcome>, service: &Served<'_>, micros: u64) {
+        let last = service.core().last();
+        self.end = bytes_end(last);
+        let (Some(_), Some(judgement)) = (outcome, last.judgements.last()) else {
+            return;
+        };
+        let judged = JudgedResponse {
+            judgement,
+            client: service.client(),
+            micros,
+            time: unix_millis(self.rt),
+        };
+        let _ = note_judgement(self.alloc, &mut self.admin, &judged);
+        log_judgement(self.alloc, &mut self.logs.updates, &judged);
+        count_judgement(&mut self.admin.metrics, &judged);
+    }
+
+    // How long bytes of the update stream took, in microseconds: since the last event of that stream was seen, or since
+    // this time in milliseconds, at which the turn began.
+    fn passed(&self, event: &Event<'_, Conn>, now: u64) -> u64 {
+        match event {
+            Event::Received(Stream::Updates, _) => {
+                let since = self.looked.max(now.saturating_mul(1_000));
+                micros(self.rt).saturating_sub(since)
+            }
+            _ => 0,
+        }
+    }
+
+    // Looks at the clock after an event of the update stream.
+    fn look(&mut self, event: &Event<'_, Conn>) {
+        match event {
+            Event::Connected | Event::Received(Stream::Updates, _) => {
+                self.looked = micros(self.rt);
+            }
+            _ => {}
+        }
+    }
+
+    // The update stream could not be connected, for this cause.
+    fn unreachable(&mut self, cause: &io::Error)
+        ensures { self.new.trace ≡ self.old.trace }
+    {
+        let alloc = self.alloc;
+        let time = unix_millis(self.rt);
+        note_loss(alloc, &mut self.admin.status, time, Loss::Unreachable);
+        if let Ok(text) = format!(in alloc; "{cause}") {
+            let update = Update::Unreachable(text.as_str());
+            log_update(alloc, &mut self.logs.updates, time, &update);
+        }
+        self.admin.metrics.stream(false);
+    }
+
+    // The update stream was lost.
+    fn lost(&mut self, loss: Loss) {
+        let time = unix_millis(self.rt);
+        note_loss(self.alloc, &mut self.admin.status, time, loss);
+        log_loss(self.alloc, &mut self.logs.updates, time, loss);
+        self.admin.metrics.stream(false);
+    }
+}
+
+impl<'m, 'r, R: Clock, F: LogFiles + Drop> Observer<Conn, Served<'m>> for Observers<'r, R, F> {
+    ghost seen = { λ o. events_of o.trace.turns };
+
+    fn see(
+        &mut self,
+        event: &Event<'_, Conn>,
+        outcome: Option<Outcome>,
+        service: &Served<'m>,
+        now: u64,
+    )
+        ensures { events_of self.new.trace.turns ≡ event_view event.now ∷ events_of self.old.trace.turns }
+    {
+        let trace = self.trace.then(&Note::Took(event));
+        let passed = self.passed(event, now);
+        let number = self.number(event, outcome);
+        let record = match entry_of(event, outcome, number, service) {
+            Some(entry) => self.record(&entry),
+            None => None,
+        };
+        match *event {
+            Event::Accepted(_, _) => self.accepted(outcome),
+            Event::Received(Stream::Place(k), _) => self.received(k, record, service),
+            Event::Closed(Stream::Place(k), reason) => self.closed(k, reason),
+            Event::Connected => self.connected(outcome),
+            Event::Received(Stream::Updates, _) => self.fed(outcome, service, passed),
+            Event::Closed(Stream::Updates, reason) => self.lost(loss_of(reason, self.end)),
+            Event::Drain => self.admin.status.drains = true,
+        }
+        self.look(event);
+        self.trace = trace;
+    }
+
+    fn failed(&mut self, failed: Failed, cause: io::Error)
+        ensures { events_of self.new.trace.turns ≡ events_of self.old.trace.turns }
+    {
+        match failed {
+            Failed::Accept => {
+                self.admin.metrics.refused_connection();
+                self.refused = Some(cause);
+            }
+            Failed::Connect => self.unreachable(&cause),
+        }
+    }
+}
