@@ -83,7 +83,7 @@ fn budget_arg<'a>(alloc: Global) -> Arg<'a>
 {
     Arg::new(alloc, "budget")
         .long("budget")
-        .value_name("N")
+        .value_name("1..100000000")
         .value_parser(value_parser!(u64).range(1..=100_000_000))
         .default_value("1000000")
         .help("What the policy's conditions may cost, from 1 to 100000000")
@@ -95,7 +95,7 @@ fn visits_arg<'a>(alloc: Global) -> Arg<'a>
 {
     Arg::new(alloc, "visits")
         .long("visits")
-        .value_name("N")
+        .value_name("1..2^63-1")
         .value_parser(value_parser!(u64).range(1..=9_223_372_036_854_775_807))
         .default_value("4194304")
         .help("How many visits the measuring of the conditions may take, from 1 to 2^63 - 1")
@@ -204,10 +204,10 @@ fn config_arg<'a>(alloc: Global) -> Arg<'a>
         .long("config")
         .value_name("FILE")
         .required(true)
-        .help("The configuration: one JSON object")
+        .help("One JSON object: for serve the settings of a server, otherwise a configuration")
 }
 
-fn control_command<'a>(alloc: Global) -> Result<Command<'a>, AllocError>
+pub(crate) fn control_command<'a>(alloc: Global) -> Result<Command<'a>, AllocError>
     ensures app { IfOk result (λ c. app_of c ≡ control_app) }
     ensures local { IfOk result (λ c. (out-Command c).has_globals ≡ false) }
 {
@@ -305,7 +305,7 @@ fn rounds_arg<'a>(alloc: Global) -> Arg<'a>
 {
     Arg::new(alloc, "rounds")
         .long("rounds")
-        .value_name("N")
+        .value_name("0..1000000")
         .required(true)
         .value_parser(value_parser!(u64).range(0..=1_000_000))
         .help("How many rounds it runs, from 0 to 1000000")

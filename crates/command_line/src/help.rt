@@ -95,7 +95,7 @@ pub(crate) const CHECK_CONFIG_HELP: &str = "The lines on standard output, with s
   filter \"f\" budget 1000000 visits 4194304
   limits fields 64 name 128 value 4096 method 32 target 4096 text 1024
 Without these lines, standard error says why. The status is then 6 for a bad configuration, and 2 if the words are
-mistaken or a file fails.
+mistaken or a file fails. The settings of a server are another object: serve --check reads these.
 
 A configuration is an object like this; each budget, each number of visits, the limits and each limit may be absent:
   {\"node\":\"n\",\"cluster\":\"c\",\"filters\":[{\"name\":\"f\",\"budget\":1000000,\"visits\":4194304}],\"limits\":{\"method\":32}}";
@@ -172,15 +172,24 @@ at once. It forwards nothing. Every answer has the verdict as its status and in 
 FILE is one JSON object. Its members proxy, listen and control are required:
   {\"proxy\":{\"node\":\"n\",\"cluster\":\"c\",\"filters\":[{\"name\":\"f\"}]},
    \"listen\":\"127.0.0.1:18080\",\"control\":\"127.0.0.1:18000\"}
-  proxy       a configuration, as check-config takes it
+  proxy       a configuration, as check-config takes it: its name, and the filters that it enforces
   facts       what is known of every connection, as judge --facts takes it; addresses and ports of the peer are added
   listen      an address, unix:PATH or fd:N, or an array of them
-  control     an address, unix:PATH, or file:PATH with a DiscoveryResponse
+  control     an address, unix:PATH, grpc://ADDRESS, grpc+unix:PATH, or file:PATH with a DiscoveryResponse
+  grpc        how a control plane of gRPC is called: method, authority, metadata, keepalive
   admin       a port of the loopback interface, or an address: status, metrics, drain
+  connections how many connections are served at once
+  pending     how many bytes of answers may wait before a connection is not read
+  timeouts    milliseconds: head, idle, write, drain, first_response
+  backoff     milliseconds before the control plane is tried again: first, greatest
+  nack_pause  milliseconds for which the update stream is not read after a refusal
+  access_log  where requests are logged: path, and sample, one in so many that pass
+  update_log  the path of the log of updates
+  record      where events are recorded: path, bytes of a file, and how many older files
+  until_eof   true: it drains once standard input ends
   map         which fields of a proxy in front hold the request of its client
   require     the names of fields that each request must have
   paths       strict answers 400 to paths that an application may read as another one; as_sent takes each path
-  others      connections pending timeouts backoff nack_pause access_log update_log record until_eof
 --check prints what each of them means, and what is taken for those that are absent.
 
 Standard error has the log of updates, unless update_log names a file. The status is 0 after a drain, and 6 for

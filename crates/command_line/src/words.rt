@@ -5,7 +5,7 @@ ghost use Rattle.command_line.specs.Words.{AreMistaken, AreRoundsOf, HasFlag, Is
 ghost use Rattle.command_line.specs.declared.words.Job.{Job};
 ghost use Rattle.cost_bound.specs.declared.budget.Budget.{Budget};
 
-use crate::commands::command;
+use crate::commands::{command, control_command};
 use crate::control_words::{ControlWords, control_fault, control_words};
 use crate::texts::text_of;
 use clap::error::ErrorKind;
@@ -143,11 +143,12 @@ pub fn read_words<S: AsStr>(alloc: Global, words: &[S]) -> Result<Job, Error>
 fn value_fault(alloc: Global, matches: &ArgMatches<'_>) -> Result<Error, AllocError>
     ensures { IfOk result (λ e. kind_of e ≡ ErrorKind.ValueValidation) }
 {
-    let fault = match matches.subcommand_matches("control") {
-        Some(control) => control_fault(control),
-        None => NUMBER_FAULT,
-    };
-    command(alloc)?.error(ErrorKind::ValueValidation, fault)
+    match matches.subcommand_matches("control") {
+        Some(control) => control_command(alloc)?
+            .bin_name("rbacd control")?
+            .error(ErrorKind::ValueValidation, control_fault(control)),
+        None => command(alloc)?.error(ErrorKind::ValueValidation, NUMBER_FAULT),
+    }
 }
 
 /// The job of the subcommand that was found, if its values are present and allowed.

@@ -47,6 +47,9 @@ pub fn read_server_settings(
     path: &str,
     text: &[u8],
 ) -> Result<ServerSettings, ServerSettingsFault> {
+    if text.is_empty() {
+        return Err(ServerSettingsFault::Bad(String::from_str(alloc, "the file is empty")?));
+    }
     let value = match Value::from_slice(alloc, text) {
         Ok(value) => value,
         Err(error) if error.is_memory() => return Err(ServerSettingsFault::Memory),

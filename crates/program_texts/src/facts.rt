@@ -135,6 +135,9 @@ pub fn conn_within<'a>(
 
 /// Why a text has no facts within the limits, in words for its author.
 pub fn cause_of_bad_facts(alloc: Global, text: &[u8]) -> Result<String, AllocError> {
+    if text.is_empty() {
+        return String::from_str(alloc, "the file is empty");
+    }
     let value = match Value::from_slice(alloc, text) {
         Ok(value) => value,
         Err(error) => return format!(in alloc; "it is not a JSON text: {error}"),

@@ -41,10 +41,19 @@ fn limits_text(alloc: Global, limits: &Limits) -> Result<String, AllocError> {
 
 /// Why a text is no configuration, in words for its author.
 pub fn cause_of_bad_config(alloc: Global, text: &[u8]) -> Result<String, AllocError> {
+    if text.is_empty() {
+        return String::from_str(alloc, "the file is empty");
+    }
     let value = match Value::from_slice(alloc, text) {
         Ok(value) => value,
         Err(error) => return format!(in alloc; "it is not a JSON text: {error}"),
     };
+    if value.get("proxy").is_some() && value.get("listen").is_some() {
+        return String::from_str(
+            alloc,
+            "these are the settings of a server, which `rbacd serve --check` reads; a configuration is the value of their member \"proxy\"",
+        );
+    }
     cause_of_bad_settings(alloc, &value)
 }
 

@@ -129,6 +129,8 @@ fn is_of_fields(refusal: Refusal) -> bool {
 /// What a file that is no filter message looks like.
 #[derive(Clone, Copy)]
 pub enum GuessedFormat {
+    /// No bytes.
+    Empty,
     /// A JSON text.
     Json,
     /// A YAML or other text.
@@ -150,6 +152,7 @@ pub enum GuessedFormat {
 impl fmt::Display for GuessedFormat {
     fn fmt<W: fmt::Write>(&self, f: &mut fmt::Formatter<W>) -> fmt::Result {
         f.write_str(match self {
+            GuessedFormat::Empty => "an empty file",
             GuessedFormat::Json => "JSON, which `tools/policy/policy encode` turns into bytes",
             GuessedFormat::Yaml => {
                 "YAML or other text, which `tools/policy/policy encode` turns into bytes"
@@ -183,6 +186,7 @@ pub(crate) fn likeness_of(bytes: &[u8]) -> Option<GuessedFormat> {
         return Some(GuessedFormat::TypedExtensionConfig);
     }
     match bytes.first() {
+        None => Some(GuessedFormat::Empty),
         Some(0x08 | 0x12) if !fields.has_rules => Some(GuessedFormat::BareRules),
         Some(_) if bytes.iter().all(|&byte| is_printed(byte)) => Some(likeness_of_text(bytes)),
         _ => None,

@@ -22,13 +22,13 @@ const LONGEST_UNIX_PATH: usize = 101;
 const BAD_LISTEN: &str = "is not a text or an array of 1 to 16 texts";
 
 const BAD_ADDRESS: &str =
-    "is not a text such as \"127.0.0.1:8080\", \"[::1]:8080\", \"unix:PATH\" or \"fd:3\"";
+    "is not a text such as \"127.0.0.1:8080\", \"[::1]:8080\", \"unix:PATH\" or \"fd:3\"; names of hosts are not taken";
 
 const BAD_CONTROL: &str =
-    "is not a text such as \"127.0.0.1:8080\", \"unix:PATH\", \"file:PATH\", \"grpc://127.0.0.1:8080\" or \"grpc+unix:PATH\"";
+    "is not a text such as \"127.0.0.1:8080\", \"unix:PATH\", \"file:PATH\", \"grpc://127.0.0.1:8080\" or \"grpc+unix:PATH\"; names of hosts are not taken";
 
 const BAD_ADMIN: &str =
-    "is not null, a port number from 0 to 65535, or a text such as \"127.0.0.1:8080\" or \"[::1]:8080\"";
+    "is not null, a port number from 0 to 65535, or a text such as \"127.0.0.1:8080\" or \"[::1]:8080\"; names of hosts are not taken";
 
 const BAD_UNIX: &str = "is not \"unix:\" with a path of 1 to 101 bytes without NUL";
 
