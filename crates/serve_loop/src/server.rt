@@ -80,6 +80,8 @@ impl<F: Drop, N: Network<F>, S: Service<F>, O: Observer<F, S>> Server<F, N, S, O
 
     /// Calls what is done between turns.
     pub fn keep_up<U: Upkeep<F, N, S, O>>(&mut self, upkeep: &mut U)
+        ensures law { ∥ Belong (N.wire self.new.board.parties.network) (S.turns self.new.board.parties.service)
+            (O.seen self.new.board.parties.observer) ∥₁ }
         ensures grows { Grows (S.turns self.old.board.parties.service) (S.turns self.new.board.parties.service) }
     {
         self.board.keep_up(upkeep);

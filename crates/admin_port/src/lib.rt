@@ -1,7 +1,0 @@
-//! The connections of a server's admin port.
-#![tactic(auto)]
-
-mod admin_stream;
-mod port;
-
-pub use port::{AdminPort, AdminReady};

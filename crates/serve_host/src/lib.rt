@@ -1,0 +1,16 @@
+//! A server as a process, over its sockets, its logs and its admin port.
+#![tactic(auto)]
+
+mod admin_port;
+mod admin_stream;
+mod errors;
+mod facts;
+mod loop_settings;
+mod network;
+mod piece;
+mod process;
+mod request_reader;
+mod streams;
+mod upkeep;
+
+pub use process::{HostFault, host};

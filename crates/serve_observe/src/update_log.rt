@@ -1,0 +1,134 @@
+//! The log of updates: which line each event of the update stream becomes.
+ghost use Rattle.std.specs.Prelude.{◌≡◌};
+ghost use Rattle.serve_observe.specs.Losses.{end_by, loss};
+
+use crate::responses::{JudgedResponse, RefusalCause, accepted_update};
+use ads::{Ended, ResponseOutcome};
+use fault_texts::StreamEnd;
+use serve_core::{LastEvent, OtherProtocol};
+use serve_log::{LogFile, LogFiles, Update, update_line};
+use serve_loop::CloseReason;
+use std::alloc::{AllocError, Global};
+
+/// Why the bytes of an update stream end it.
+#[derive(Clone, Copy, PartialEq, Eq, Debug)]
+pub(crate) enum BytesEnd {
+    /// They are of another protocol.
+    OtherProtocol(OtherProtocol),
+    /// They are no response.
+    Ended(Ended),
+}
+
+/// Why an update stream was lost.
+#[derive(Clone, Copy, PartialEq, Eq, Debug)]
+pub(crate) enum Loss {
+    /// No stream could be opened.
+    Unreachable,
+    /// It was closed.
+    Closed,
+    /// It failed.
+    Reset,
+    /// Its bytes ended it.
+    Bytes(BytesEnd),
+    /// No response came in time.
+    NoResponse,
+    /// A request was not taken in time.
+    NotTaken,
+    /// Memory ran out.
+    Memory,
+}
+
+/// Why the bytes of the last event end the update stream; none if they do not.
+pub(crate) fn bytes_end(last: &LastEvent) -> Option<BytesEnd>
+    ensures { result ≡ end_by last.now.other_protocol last.now.ended }
+{
+    match (last.other_protocol, last.ended) {
+        (Some(protocol), _) => Some(BytesEnd::OtherProtocol(protocol)),
+        (None, Some(ended)) => Some(BytesEnd::Ended(ended)),
+        (None, None) => None,
+    }
+}
+
+/// Why an update stream was lost that was closed for this reason, after its bytes ended it or did not.
+pub(crate) fn loss_of(reason: CloseReason, end: Option<BytesEnd>) -> Loss
+    ensures { result ≡ loss reason end }
+{
+    match (reason, end) {
+        (CloseReason::Served | CloseReason::Foreign, Some(end)) => Loss::Bytes(end),
+        (CloseReason::Served | CloseReason::Foreign, None) => Loss::Closed,
+        (CloseReason::Left | CloseReason::Idle | CloseReason::Drained, _) => Loss::Closed,
+        (CloseReason::Reset, _) => Loss::Reset,
+        (CloseReason::Slow, _) => Loss::NoResponse,
+        (CloseReason::Blocked, _) => Loss::NotTaken,
+        (CloseReason::Memory, _) => Loss::Memory,
+    }
+}
+
+/// Why an update stream was lost, in words.
+pub(crate) fn words_of(alloc: Global, loss: Loss) -> Result<String, AllocError> {
+    let words = match loss {
+        Loss::Unreachable => "unreachable",
+        Loss::Closed => "closed",
+        Loss::Reset => "reset",
+        Loss::Bytes(BytesEnd::Ended(ended)) => return StreamEnd(ended).to_string(alloc),
+        Loss::Bytes(BytesEnd::OtherProtocol(OtherProtocol::Http2)) => "the other end speaks HTTP/2",
+        Loss::Bytes(BytesEnd::OtherProtocol(OtherProtocol::Tls)) => "the other end speaks TLS",
+        Loss::NoResponse => "no response in time",
+        Loss::NotTaken => "a request was not taken in time",
+        Loss::Memory => "out of memory",
+    };
+    String::from_str(alloc, words)
+}
+
+/// Logs what happened to the update stream, at this time in milliseconds since 1970.
+pub(crate) fn log_update<F: LogFiles + Drop>(
+    alloc: Global,
+    file: &mut LogFile<F>,
+    time: u64,
+    update: &Update<'_>,
+) {
+    if let Ok(line) = update_line(alloc, time, update) {
+        file.line(line.as_str());
+    }
+}
+
+/// Logs that the update stream was lost.
+pub(crate) fn log_loss<F: LogFiles + Drop>(
+    alloc: Global,
+    file: &mut LogFile<F>,
+    time: u64,
+    loss: Loss,
+) {
+    if let Ok(why) = words_of(alloc, loss) {
+        log_update(alloc, file, time, &Update::Lost(why.as_str()));
+    }
+}
+
+/// Logs how a response was judged.
+pub(crate) fn log_judgement<F: LogFiles + Drop>(
+    alloc: Global,
+    file: &mut LogFile<F>,
+    judged: &JudgedResponse<'_>,
+) {
+    match &judged.judgement.outcome {
+        ResponseOutcome::Accepted(_) => {
+            log_update(alloc, file, judged.time, &accepted_update(judged));
+        }
+        ResponseOutcome::Refused(refused) => {
+            if let Ok(cause) = judged.refusal_cause(alloc, refused) {
+                log_refusal(alloc, file, judged, &cause);
+            }
+        }
+    }
+}
+
+// Logs that a response was refused for this cause.
+fn log_refusal<F: LogFiles + Drop>(
+    alloc: Global,
+    file: &mut LogFile<F>,
+    judged: &JudgedResponse<'_>,
+    cause: &RefusalCause<'_>,
+) {
+    let update = cause.update(judged);
+    log_update(alloc, file, judged.time, &update);
+}
