@@ -1,4 +1,7 @@
 //! What a server reports of itself. Names, versions and causes are any text.
+ghost use Rattle.std.specs.Prelude.{◌≡◌};
+ghost use Rattle.std.specs.List.{list_all};
+ghost use Rattle.serve_admin.specs.Readiness.{has_policies, readiness};
 
 use serde::Serialize;
 use std::alloc::{AllocError, Global};
@@ -92,7 +95,21 @@ impl Status {
     }
 
     /// Whether requests are judged by policies, and new connections are accepted.
-    pub fn is_ready(&self) -> bool {
-        !self.drains && self.filters.iter().all(|filter| filter.policies.is_some())
+    pub fn is_ready(&self) -> bool
+        ensures { result ≡ readiness self.now }
+    {
+        !self.drains && all_have_policies(&self.filters)
     }
+}
+
+fn all_have_policies(filters: &[FilterStatus]) -> bool
+    ensures { result ≡ list_all has_policies filters.now }
+{
+    filters.iter().all(|filter| has_policies(filter))
+}
+
+fn has_policies(filter: &FilterStatus) -> bool
+    ensures { result ≡ has_policies filter.now }
+{
+    filter.policies.is_some()
 }
