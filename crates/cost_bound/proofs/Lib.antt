@@ -8,5 +8,6 @@ pub mod Locals
 pub mod Places
 pub mod Steps
 pub mod Counting
-pub mod Pairs
+pub mod Operands
 pub mod Choices
+pub mod Joining

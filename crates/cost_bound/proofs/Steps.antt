@@ -6,7 +6,8 @@ use Rattle.cel_types.specs.View.{TypedParts, loop_of}
 use Rattle.cel_types.specs.private.ExprViews.{exprs_view}
 use Rattle.cel_types.specs.declared.typed.TypedExpr.{TypedExpr}
 use Rattle.cel_value.specs.Types.{ValueType}
-use Rattle.std.specs.Prelude.{Result, IfErr, IsErrAnd}
+use Rattle.std.specs.Prelude.{Result, IfErr, IfOk, IsErrAnd}
+use Rattle.std.proofs.lemmas.Result.{IfOk-weaker}
 use Rattle.proto_wire.proofs.Exits.{exit_memory_or, last_memory_or}
 use Rattle.proto_wire.specs.Refusal.{MemoryOr}
 use Rattle.proto_wire.specs.declared.refusal.Refusal.{Refusal}
@@ -14,7 +15,8 @@ use Rattle.cel_costs.specs.Costs.{cost_of, costs_of, grown, size_of, sizes_of, t
 use Rattle.cel_costs.specs.Sizes.{Size, most_of}
 use Rattle.cel_costs.specs.Visits.{turns_visits, visits_of}
 use Rattle.cost_bound.specs.declared.budget.Budget.{Budget}
-use Rattle.cost_bound.specs.private.Measuring.{CostsMore, Exceeds, loop_visits, next_size, turn_cost, turn_visits}
+use Rattle.cost_bound.specs.declared.measured.Measured.{Measured}
+use Rattle.cost_bound.specs.private.Measuring.{CostsMore, Exceeds, Finds, loop_visits, next_size, turn_cost, turn_visits}
 
 -- there are as many costs as sizes
 pub as_many : (es : TypedTrees) (l : LimitsValue) (ss : List Size)
@@ -55,6 +57,13 @@ pub last_more : {T : Type 0} (a u : ℕ) (rest : Budget) (b v : ℕ) (left : Bud
     → IfErr r (MemoryOr (Exceeds a u rest)) → IfErr r (MemoryOr (Exceeds b v left))
 last_more a u rest b v left r more seen h =
     last_memory_or (Exceeds a u rest) (Exceeds b v left) r h (λ e f. exceeds a u rest b v left e more seen f)
+
+-- at a last call that finds the rest
+pub last_found : (size whole : Size) (a u b v : ℕ) (rest left : Budget) (r : Result Measured Refusal) → size ≡ whole
+    → ((k : ℕ) → rest.steps ≡ a + k → left.steps ≡ b + k) → ((k : ℕ) → rest.visits ≡ u + k → left.visits ≡ v + k)
+    → IfOk r (Finds size a u rest) → IfOk r (Finds whole b v left)
+last_found size whole a u b v rest left r same paid seen h =
+    IfOk-weaker r _ _ (λ m f. (f.0 ∙ same, paid m.left.steps f.1, seen m.left.visits f.2)) h
 
 -- the cost of a comprehension, by the sizes of its parts
 pub loop_costs : (p : TypedParts) (t : ValueType) (l : LimitsValue) (ss E : List Size) (R I G : Size) (n : ℕ)

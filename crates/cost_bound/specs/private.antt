@@ -3,3 +3,4 @@ pub mod Numbers
 pub mod SizeView
 pub mod ScopeView
 pub mod Measuring
+pub mod Finding

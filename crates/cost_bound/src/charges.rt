@@ -24,6 +24,7 @@ use std::sync::ArcStr;
 
 /// The budget less 1 step and less a part; `TooCostly` if it has too few steps. A capped part is 2^64 - 1: no
 /// budget pays for it and for the 1.
+#[inline(always)]
 pub(crate) fn pay(left: Budget, part: u64) -> Result<Budget, Refusal>
     ensures fits { left.steps < 2 ^ 64 }
     ensures found { IfOk result (λ rest. (left.steps ≡ 1 + part + rest.steps) × (left.visits ≡ rest.visits)) }

@@ -123,39 +123,20 @@ fn concat_size(
     Ok(joined.resized(sum(first.most(), second.most())))
 }
 
-/// The size of a list literal, by the sizes of its items; if it is empty, the least of its type.
+/// The size of a list literal of so many items, whose sizes were joined; if it is empty, the least of its type.
 pub(crate) fn list_size(
     alloc: Global,
     cel_type: &CelType,
-    sizes: &[ValueSize],
+    count: u64,
+    items: ValueSize,
 ) -> Result<ValueSize, AllocError>
-    ensures { IfOk result (λ size. size_view size
-        ≡ list_size (type_view cel_type.now) (sizes_view sizes.now)) }
+    ensures { IfOk result (λ size. (ss : List Size) → length ss ≡ count → size_view items ≡ join_all ss
+        → size_view size ≡ list_size (type_view cel_type.now) ss) }
 {
-    if sizes.is_empty() {
+    if count == 0 {
         return least(alloc, cel_type);
     }
-    let joined = join_each(alloc, sizes)?;
-    many(alloc, item_count(sizes), joined)
-}
-
-// Joins sizes, from the last to the first.
-fn join_each(alloc: Global, sizes: &[ValueSize]) -> Result<ValueSize, AllocError>
-    ensures { IfOk result (λ joined. size_view joined ≡ join_all (sizes_view sizes.now)) }
-{
-    let mut joined = ValueSize::Flat;
-    let mut at = sizes.len();
-    while at > 0 {
-        at -= 1;
-        joined = join(alloc, &sizes[at], &joined)?;
-    }
-    Ok(joined)
-}
-
-fn item_count(sizes: &[ValueSize]) -> u64
-    ensures { result ≡ length (sizes_view sizes.now) }
-{
-    sizes.len() as u64
+    many(alloc, count, items)
 }
 
 /// The size of a map literal, by the sizes of its keys and values in turn; if it is empty, the

@@ -3,23 +3,21 @@
 ghost use Rattle.std.specs.Prelude.{◌≡◌, ◌+◌, IfErr, IfOk, length};
 ghost use Rattle.proto_wire.specs.Refusal.{MemoryOr};
 ghost use Rattle.cel_overload.specs.declared.overload.Overload.TheVariants.{Conditional};
-ghost use Rattle.cel_types.specs.Elaborated.{kinds};
-ghost use Rattle.cel_types.specs.View.{expr_view, loop_of};
+ghost use Rattle.cel_types.specs.View.{expr_view};
 ghost use Rattle.cel_types.specs.private.ExprViews.{exprs_view, parts_view};
 ghost use Rattle.cel_value.specs.Texts.{text_view};
 ghost use Rattle.cel_value.specs.Types.{ValueType, type_view};
-ghost use Rattle.cel_costs.specs.Costs.{call_cost, call_size, cost_of, field_cost, grown, list_size, map_cost, map_size, size_of, total, turns_cost};
 ghost use Rattle.cel_costs.specs.Sizes.{join};
-ghost use Rattle.cel_costs.specs.Visits.{turns_visits};
-ghost use Rattle.cost_bound.specs.private.Measuring.{Exceeds, Finds, call_part, cost_in, costs_in, loop_visits, loop_visits_in, next_in, size_in, sizes_in, turn_in, turn_visits_in, visits_in, visits_in_each, visits_inside_in};
+ghost use Rattle.cost_bound.specs.private.Finding.{ExceedsCall, ExceedsEach, ExceedsExpr, ExceedsField, ExceedsInside, ExceedsList, ExceedsLoop, ExceedsMap, ExceedsOperands, ExceedsTurn, ExceedsTurns, FindsCall, FindsEach, FindsExpr, FindsField, FindsInside, FindsList, FindsLoop, FindsMap, FindsOperands, FindsTurn, FindsTurns};
+ghost use Rattle.cost_bound.specs.private.Measuring.{Exceeds, Finds, cost_in, scope_in, size_in, visits_in};
 ghost use Rattle.cost_bound.specs.private.ScopeView.{scope_view};
-ghost use Rattle.cost_bound.specs.private.SizeView.{size_view, sizes_view};
+ghost use Rattle.cost_bound.specs.private.SizeView.{size_view};
 
 use crate::budget::Budget;
-use crate::charges::{call_part, field_part, is_choice, pay, pay_turns};
+use crate::charges::{field_part, is_choice, pay, pay_turns};
 use crate::known::{attribute_size, constant_size};
-use crate::made::{call_size, list_size, map_part, map_size};
-use crate::measured::{Measured, MeasuredEach, leaf};
+use crate::made::{list_size, map_part, map_size};
+use crate::measured::{Measured, MeasuredEach, call_of, leaf};
 use crate::measuring::{Around, Measuring, Turns};
 use crate::scope::{all_of, find};
 use crate::size::{ValueSize, join, same};
@@ -40,10 +38,8 @@ pub(crate) fn measure(
     at: Measuring<'_>,
     left: Budget,
 ) -> Result<Measured, Refusal>
-    ensures found { let e = expr_view expr.now in
-        IfOk result (Finds (size_in at.entry e) (cost_in at.entry e) (visits_in at.entry e) left) }
-    ensures fault { let e = expr_view expr.now in
-        IfErr result (MemoryOr (Exceeds (cost_in at.entry e) (visits_in at.entry e) left)) }
+    ensures found { IfOk result (FindsExpr at.entry (expr_view expr.now) left) }
+    ensures fault { IfErr result (MemoryOr (ExceedsExpr at.entry (expr_view expr.now) left)) }
 {
     let rest = visit(left, expr.cel_type())?;
     measure_node(alloc, expr, at, rest)
@@ -57,10 +53,8 @@ fn measure_node(
     at: Measuring<'_>,
     left: Budget,
 ) -> Result<Measured, Refusal>
-    ensures found { let e = expr_view expr.now in
-        IfOk result (Finds (size_in at.entry e) (cost_in at.entry e) (visits_inside_in at.entry e) left) }
-    ensures fault { let e = expr_view expr.now in
-        IfErr result (MemoryOr (Exceeds (cost_in at.entry e) (visits_inside_in at.entry e) left)) }
+    ensures found { IfOk result (FindsInside at.entry (expr_view expr.now) left) }
+    ensures fault { IfErr result (MemoryOr (ExceedsInside at.entry (expr_view expr.now) left)) }
 {
     match expr {
         TypedExpr::Constant { value, .. } => leaf(constant_size(value), left),
@@ -101,10 +95,8 @@ fn measure_field(
     name: &ArcStr,
     left: Budget,
 ) -> Result<Measured, Refusal>
-    ensures found { let e = expr_view map.now in let size = size_in at.entry e in IfOk result
-        (Finds size (cost_in at.entry e + field_cost (text_view name.now) size) (visits_in at.entry e) left) }
-    ensures fault { let e = expr_view map.now in let size = size_in at.entry e in IfErr result (MemoryOr
-        (Exceeds (cost_in at.entry e + field_cost (text_view name.now) size) (visits_in at.entry e) left)) }
+    ensures found { IfOk result (FindsField at.entry (expr_view map.now) (text_view name.now) left) }
+    ensures fault { IfErr result (MemoryOr (ExceedsField at.entry (expr_view map.now) (text_view name.now) left)) }
 {
     let found = measure(alloc, map, at, left)?;
     let left = pay(found.left, field_part(name, &found.size))?;
@@ -122,12 +114,8 @@ fn measure_each(
     at: Measuring<'_>,
     left: Budget,
 ) -> Result<MeasuredEach, Refusal>
-    ensures found { let es = exprs_view exprs.now in IfOk result (λ m.
-        (sizes_view m.sizes.items ≡ sizes_in at.entry es)
-        × (left.steps ≡ total (costs_in at.entry es) + m.left.steps)
-        × (left.visits ≡ visits_in_each at.entry es + m.left.visits)) }
-    ensures fault { let es = exprs_view exprs.now in IfErr result (MemoryOr
-        (Exceeds (total (costs_in at.entry es)) (visits_in_each at.entry es) left)) }
+    ensures found { IfOk result (FindsEach at.entry (exprs_view exprs.now) left) }
+    ensures fault { IfErr result (MemoryOr (ExceedsEach at.entry (exprs_view exprs.now) left)) }
 {
     let mut sizes = Vec::with_capacity(alloc, exprs.len())?;
     let mut rest = left;
@@ -139,7 +127,7 @@ fn measure_each(
     Ok(MeasuredEach { sizes, left: rest })
 }
 
-// A list literal.
+// A list literal. The sizes of its items are joined as they are found.
 #[cycle(measure)]
 fn measure_list(
     alloc: Global,
@@ -148,17 +136,19 @@ fn measure_list(
     cel_type: &CelType,
     left: Budget,
 ) -> Result<Measured, Refusal>
-    ensures found { let es = exprs_view items.now in
-        IfOk result (Finds (list_size (type_view cel_type.now) (sizes_in at.entry es))
-        (total (costs_in at.entry es) + (1 + length (costs_in at.entry es))) (visits_in_each at.entry es) left) }
-    ensures fault { let es = exprs_view items.now in IfErr result (MemoryOr
-        (Exceeds (total (costs_in at.entry es) + (1 + length (costs_in at.entry es)))
-        (visits_in_each at.entry es) left)) }
+    ensures found { IfOk result (FindsList at.entry (type_view cel_type.now) (exprs_view items.now) left) }
+    ensures fault { IfErr result (MemoryOr (ExceedsList at.entry (exprs_view items.now) left)) }
 {
-    let found = measure_each(alloc, items, at, left)?;
+    let mut joined = ValueSize::Flat;
+    let mut rest = left;
+    for item in items {
+        let found = measure(alloc, item, at, rest)?;
+        joined = join(alloc, &joined, &found.size)?;
+        rest = found.left;
+    }
     let count = items.len() as u64;
-    let left = pay(found.left, count)?;
-    let size = list_size(alloc, cel_type, &found.sizes)?;
+    let left = pay(rest, count)?;
+    let size = list_size(alloc, cel_type, count, joined)?;
     Ok(Measured { size, left })
 }
 
@@ -171,11 +161,8 @@ fn measure_map(
     cel_type: &CelType,
     left: Budget,
 ) -> Result<Measured, Refusal>
-    ensures found { let es = exprs_view pairs.now in
-        IfOk result (Finds (map_size (type_view cel_type.now) (sizes_in at.entry es))
-        (total (costs_in at.entry es) + map_cost (sizes_in at.entry es)) (visits_in_each at.entry es) left) }
-    ensures fault { let es = exprs_view pairs.now in IfErr result (MemoryOr
-        (Exceeds (total (costs_in at.entry es) + map_cost (sizes_in at.entry es)) (visits_in_each at.entry es) left)) }
+    ensures found { IfOk result (FindsMap at.entry (type_view cel_type.now) (exprs_view pairs.now) left) }
+    ensures fault { IfErr result (MemoryOr (ExceedsMap at.entry (exprs_view pairs.now) left)) }
 {
     let found = measure_each(alloc, pairs, at, left)?;
     let left = pay(found.left, map_part(&found.sizes))?;
@@ -192,12 +179,8 @@ fn measure_call(
     overload: Overload,
     left: Budget,
 ) -> Result<Measured, Refusal>
-    ensures found { let es = exprs_view operands.now in IfOk result (Finds (call_size overload (sizes_in at.entry es))
-        (call_cost overload (kinds es) (costs_in at.entry es) (sizes_in at.entry es))
-        (visits_in_each at.entry es) left) }
-    ensures fault { let es = exprs_view operands.now in IfErr result (MemoryOr
-        (Exceeds (call_cost overload (kinds es) (costs_in at.entry es) (sizes_in at.entry es))
-        (visits_in_each at.entry es) left)) }
+    ensures found { IfOk result (FindsCall at.entry overload (exprs_view operands.now) left) }
+    ensures fault { IfErr result (MemoryOr (ExceedsCall at.entry overload (exprs_view operands.now) left)) }
 {
     if is_choice(overload, operands) {
         return measure_conditional(alloc, operands, at, left);
@@ -205,7 +188,7 @@ fn measure_call(
     measure_operands(alloc, operands, at, overload, left)
 }
 
-// A call of which each operand is evaluated.
+// A call of which each operand is evaluated. One operand or two need no memory for their sizes.
 #[cycle(measure)]
 fn measure_operands(
     alloc: Global,
@@ -214,53 +197,24 @@ fn measure_operands(
     overload: Overload,
     left: Budget,
 ) -> Result<Measured, Refusal>
-    ensures found { let es = exprs_view operands.now in IfOk result (Finds (call_size overload (sizes_in at.entry es))
-        (total (costs_in at.entry es) + (1 + call_part overload (kinds es) (sizes_in at.entry es)))
-        (visits_in_each at.entry es) left) }
-    ensures fault { let es = exprs_view operands.now in IfErr result (MemoryOr
-        (Exceeds (total (costs_in at.entry es) + (1 + call_part overload (kinds es) (sizes_in at.entry es)))
-        (visits_in_each at.entry es) left)) }
-{
-    if operands.len() == 2 {
-        return measure_pair(alloc, operands, at, overload, left);
-    }
-    let found = measure_each(alloc, operands, at, left)?;
-    let left = pay(found.left, call_part(overload, operands, &found.sizes))?;
-    Ok(Measured {
-        size: call_size(alloc, overload, &found.sizes)?,
-        left,
-    })
-}
-
-// A call of two operands; needs no memory for their sizes.
-#[cycle(measure)]
-fn measure_pair(
-    alloc: Global,
-    operands: &[TypedExpr<'_>],
-    at: Measuring<'_>,
-    overload: Overload,
-    left: Budget,
-) -> Result<Measured, Refusal>
-    requires two { length operands.now ≡ 2 }
-    ensures found { let es = exprs_view operands.now in IfOk result (Finds (call_size overload (sizes_in at.entry es))
-        (total (costs_in at.entry es) + (1 + call_part overload (kinds es) (sizes_in at.entry es)))
-        (visits_in_each at.entry es) left) }
-    ensures fault { let es = exprs_view operands.now in IfErr result (MemoryOr
-        (Exceeds (total (costs_in at.entry es) + (1 + call_part overload (kinds es) (sizes_in at.entry es)))
-        (visits_in_each at.entry es) left)) }
+    ensures found { IfOk result (FindsOperands at.entry overload (exprs_view operands.now) left) }
+    ensures fault { IfErr result (MemoryOr (ExceedsOperands at.entry overload (exprs_view operands.now) left)) }
 {
     match operands {
         [first, second] => {
             let one = measure(alloc, first, at, left)?;
             let other = measure(alloc, second, at, one.left)?;
-            let sizes = [one.size, other.size];
-            let left = pay(other.left, call_part(overload, operands, &sizes))?;
-            Ok(Measured {
-                size: call_size(alloc, overload, &sizes)?,
-                left,
-            })
+            let left = other.left;
+            call_of(alloc, overload, operands, &[one.size, other.size], left)
         }
-        _ => unreachable!(),
+        [only] => {
+            let one = measure(alloc, only, at, left)?;
+            call_of(alloc, overload, operands, &[one.size], one.left)
+        }
+        _ => {
+            let found = measure_each(alloc, operands, at, left)?;
+            call_of(alloc, overload, operands, &found.sizes, found.left)
+        }
     }
 }
 
@@ -273,13 +227,8 @@ fn measure_conditional(
     left: Budget,
 ) -> Result<Measured, Refusal>
     requires three { length operands.now ≡ 3 }
-    ensures found { let es = exprs_view operands.now in
-        IfOk result (Finds (call_size Conditional (sizes_in at.entry es))
-        (call_cost Conditional (kinds es) (costs_in at.entry es) (sizes_in at.entry es))
-        (visits_in_each at.entry es) left) }
-    ensures fault { let es = exprs_view operands.now in IfErr result (MemoryOr
-        (Exceeds (call_cost Conditional (kinds es) (costs_in at.entry es) (sizes_in at.entry es))
-        (visits_in_each at.entry es) left)) }
+    ensures found { IfOk result (FindsCall at.entry Conditional (exprs_view operands.now) left) }
+    ensures fault { IfErr result (MemoryOr (ExceedsCall at.entry Conditional (exprs_view operands.now) left)) }
 {
     match operands {
         [condition, first, second] => {
@@ -314,10 +263,10 @@ fn measure_loop(
     at: Measuring<'_>,
     left: Budget,
 ) -> Result<Measured, Refusal>
-    ensures found { (t : ValueType) → let p = parts_view parts.now in let e = loop_of t p in
-        IfOk result (Finds (size_in at.entry e) (cost_in at.entry e) (loop_visits_in at.entry p) left) }
-    ensures fault { (t : ValueType) → let p = parts_view parts.now in IfErr result (MemoryOr
-        (Exceeds (cost_in at.entry (loop_of t p)) (loop_visits_in at.entry p) left)) }
+    ensures found { (t : ValueType) → let l = at.entry.around.limits.now in
+        IfOk result (FindsLoop l (scope_in at.entry) t (parts_view parts.now) left) }
+    ensures fault { (t : ValueType) → let l = at.entry.around.limits.now in
+        IfErr result (MemoryOr (ExceedsLoop l (scope_in at.entry) t (parts_view parts.now) left)) }
 {
     let locals = all_of(alloc, at)?;
     let around = Around {
@@ -335,12 +284,10 @@ fn measure_parts(
     around: Around<'_>,
     left: Budget,
 ) -> Result<Measured, Refusal>
-    ensures found { (t : ValueType) → let p = parts_view parts.now in let e = loop_of t p in
-        let l = around.entry.limits.now in let ss = scope_view around.entry.locals.now in
-        IfOk result (Finds (size_of e l ss) (cost_of e l ss) (loop_visits p l ss) left) }
-    ensures fault { (t : ValueType) → let p = parts_view parts.now in let e = loop_of t p in
-        let l = around.entry.limits.now in let ss = scope_view around.entry.locals.now in
-        IfErr result (MemoryOr (Exceeds (cost_of e l ss) (loop_visits p l ss) left)) }
+    ensures found { (t : ValueType) → let ss = scope_view around.entry.locals.now in
+        IfOk result (FindsLoop around.entry.limits.now ss t (parts_view parts.now) left) }
+    ensures fault { (t : ValueType) → let ss = scope_view around.entry.locals.now in
+        IfErr result (MemoryOr (ExceedsLoop around.entry.limits.now ss t (parts_view parts.now) left)) }
 {
     let before = Measuring { around, inner: &[] };
     let range = measure(alloc, &parts.range, before, left)?;
@@ -349,11 +296,7 @@ fn measure_parts(
     let count = range.size.most();
     drop(range);
     let init = measure(alloc, &parts.init, before, opened)?;
-    let stored = pay(init.left, 0)?;
-    let begun = Measured {
-        size: init.size,
-        left: stored,
-    };
+    let begun = leaf(init.size, init.left)?;
     let turns = Turns {
         around,
         each: &each,
@@ -377,13 +320,10 @@ fn measure_turns(
     count: u64,
     begun: Measured,
 ) -> Result<Measured, Refusal>
-    ensures found { let p = parts_view parts.now in let s = size_view begun.size in
-        IfOk result (Finds (grown (next_in p turns.now) count s)
-        (turns_cost (next_in p turns.now) (turn_in p turns.now) count s)
-        (turns_visits (next_in p turns.now) (turn_visits_in p turns.now) count s) begun.left) }
-    ensures fault { let p = parts_view parts.now in let s = size_view begun.size in IfErr result (MemoryOr
-        (Exceeds (turns_cost (next_in p turns.now) (turn_in p turns.now) count s)
-        (turns_visits (next_in p turns.now) (turn_visits_in p turns.now) count s) begun.left)) }
+    ensures found { let s = size_view begun.size in
+        IfOk result (FindsTurns (parts_view parts.now) turns.now count s begun.left) }
+    ensures fault { let s = size_view begun.size in
+        IfErr result (MemoryOr (ExceedsTurns (parts_view parts.now) turns.now count s begun.left)) }
 {
     let mut accumulator = begun.size;
     let mut rest = begun.left;
@@ -416,29 +356,21 @@ fn measure_turn(
     accumulator: &ValueSize,
     left: Budget,
 ) -> Result<Measured, Refusal>
-    ensures found { let p = parts_view parts.now in let s = size_view accumulator.now in
-        IfOk result (Finds (join s (next_in p turns.now s)) (turn_in p turns.now s)
-        (turn_visits_in p turns.now s) left) }
-    ensures fault { let p = parts_view parts.now in let s = size_view accumulator.now in
-        IfErr result (MemoryOr (Exceeds (turn_in p turns.now s) (turn_visits_in p turns.now s) left)) }
+    ensures found { let s = size_view accumulator.now in
+        IfOk result (FindsTurn (parts_view parts.now) turns.now s left) }
+    ensures fault { let s = size_view accumulator.now in
+        IfErr result (MemoryOr (ExceedsTurn (parts_view parts.now) turns.now s left)) }
 {
     let rest = visit(left, parts.init.cel_type())?;
+    let around = turns.around;
     match &turns.each.key {
         None => {
-            let inner = [accumulator, &turns.each.value];
-            let inside = Measuring {
-                around: turns.around,
-                inner: &inner,
-            };
-            measure_body(alloc, parts, inside, accumulator, rest)
+            let inner = &[accumulator, &turns.each.value];
+            measure_body(alloc, parts, Measuring { around, inner }, accumulator, rest)
         }
         Some(key) => {
-            let inner = [accumulator, key, &turns.each.value];
-            let inside = Measuring {
-                around: turns.around,
-                inner: &inner,
-            };
-            measure_body(alloc, parts, inside, accumulator, rest)
+            let inner = &[accumulator, key, &turns.each.value];
+            measure_body(alloc, parts, Measuring { around, inner }, accumulator, rest)
         }
     }
 }

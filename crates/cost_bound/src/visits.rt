@@ -10,6 +10,7 @@ use cel_value::CelType;
 use proto_wire::Refusal;
 
 /// The budget less the visit of a node of this type; `TooLarge` if it has too few visits.
+#[inline(always)]
 pub(crate) fn visit(left: Budget, cel_type: &CelType) -> Result<Budget, Refusal>
     ensures found { IfOk result (λ rest. (left.steps ≡ rest.steps)
         × (left.visits ≡ weight (type_view cel_type.now) + rest.visits)) }
@@ -23,6 +24,7 @@ pub(crate) fn visit(left: Budget, cel_type: &CelType) -> Result<Budget, Refusal>
 }
 
 // The visits that are left after a node of this type. Most types have one level.
+#[inline(always)]
 fn less_weight(visits: u64, cel_type: &CelType) -> Result<u64, Refusal>
     ensures found { IfOk result (λ rest. visits ≡ weight (type_view cel_type.now) + rest) }
     ensures fault { IfErr result (VisitsMore (weight (type_view cel_type.now)) visits) }
@@ -54,6 +56,7 @@ fn less_levels(visits: u64, cel_type: &CelType) -> Result<u64, Refusal>
     }
 }
 
+#[inline(always)]
 fn less(visits: u64, count: u64) -> Result<u64, Refusal>
     ensures found { IfOk result (λ rest. visits ≡ count + rest) }
     ensures fault { IfErr result (VisitsMore count visits) }

@@ -1,20 +1,21 @@
-use Rattle.std.proofs.Common.{false, true, ◌+◌, ◌≡◌, ◌<◌, ◌^◌, ◌∙◌, ap, refl, sym, arith}
+use Rattle.std.proofs.Common.{false, true, ◌+◌, ◌≡◌, ◌∙◌, ◌∷◌, ap, drop, length, refl, sym, arith}
+use Rattle.std.proofs.lemmas.List.{drop_all, drop_more}
 use Rattle.std.proofs.lemmas.Result.{IfOk-weaker}
 use Rattle.cel_types.specs.Elaborated.{kinds}
 use Rattle.cel_types.specs.View.{expr_view}
 use Rattle.cel_types.specs.private.ExprViews.{exprs_view, parts_view}
 use Rattle.cel_value.specs.Types.{type_view}
-use Rattle.cel_costs.specs.Costs.{charge_at, sizes_of}
-use Rattle.cost_bound.specs.private.Measuring.{call_part, next_in, scope_in, turn_in, turn_visits_in}
-use Rattle.cost_bound.specs.private.Numbers.{capped}
+use Rattle.cel_costs.specs.Costs.{join_all, size_of, sizes_of}
+use Rattle.cost_bound.specs.private.Measuring.{next_in, scope_in, turn_in, turn_visits_in}
 use Rattle.cost_bound.specs.private.ScopeView.{scope_view}
 use Rattle.cost_bound.specs.private.SizeView.{size_view}
-use Rattle.cost_bound.proofs.Calls.{call_costs, part_covers}
-use Rattle.cost_bound.proofs.Capped.{paid}
+use Rattle.cost_bound.proofs.Calls.{call_costs}
 use Rattle.cost_bound.proofs.Choices.{three_of}
 use Rattle.cost_bound.proofs.ExprViews.{view_loop}
-use Rattle.cost_bound.proofs.Pairs.{pair_found, pair_seen}
+use Rattle.cost_bound.proofs.Joining.{join_flat, join_next}
+use Rattle.cost_bound.proofs.Operands.{call_found, call_short, all_measured, one_measured, two_measured}
 use Rattle.cost_bound.proofs.Steps.{as_many, cost_count, exit_charge, exit_more, last_more, loop_costs, loop_seen, loop_size}
+use Rattle.cost_bound.proofs.SizeViews.{view_flat}
 use Rattle.cost_bound.proofs.Turns.{grown_next, grown_still, still_paid, still_short, turns_next, visits_next, visits_still}
 use Rattle.cost_bound.proofs.measure.+measure.Goals as goal
 
@@ -28,23 +29,45 @@ measure_node-returns-in-Loop-clause-fault t c =
     let seen = ap expr_view c.in-Loop.is ∙ view_loop c.in-Loop.cel_type c.in-Loop.parts in
     rw seen (rw c.deref-in-Loop.ensures at c.measure_loop.ensures.fault (type_view c.in-Loop.cel_type))
 
-pub measure_list-returns-in_err-left-clause-fault : goal.measure_list-returns-in_err-left-clause-fault
-measure_list-returns-in_err-left-clause-fault t c =
-    let exit = c.from_residual-in_err-left in
+pub measure_list-loop-item-init : goal.measure_list-loop-item-init
+measure_list-loop-item-init t c = rw view_flat (refl, omega arith, omega arith)
+
+pub measure_list-loop-item-preserved : goal.measure_list-loop-item-preserved
+measure_list-loop-item-preserved t c =
+    let i = c.loop-item.item-index in
+    let item = c.item-item.result in
+    let l = c.args.at.around.limits.now in
+    let scope = scope_in c.args.at in
+    let before = c.loop-item.invariant in
     let found = c.in_ok-found.ensures.found in
-    let counted = cost_count c.args.items.now c.args.at.around.limits.now (scope_in c.args.at) in
-    exit_charge _ _ _ _ c.args.left exit.result _ exit.ensures.1 c.in_err-left.ensures.fault
-    (λ more. omega (arith, more, found.1))
+    let rest : drop i c.args.items.now ≡ item ∷ drop (i + 1) c.args.items.now =
+    drop_more c.args.items.now i item c.loop-item-test.true ∙ ap (λ x. x ∷ drop (i + 1) c.args.items.now) (sym c.item-item.is) in
+    let all = rw rest at before in (
+      join_next (size_view c.loop-item.joined) (size_view c.in_ok-joined.joined) (size_of (expr_view item) l scope)
+          (join_all (sizes_of (exprs_view c.args.items.now) l scope))
+          (sizes_of (exprs_view (drop (i + 1) c.args.items.now)) l scope) (rw found.0 at c.in_ok-joined.ensures) all.0,
+      omega (arith, all.1, found.1),
+      omega (arith, all.2, found.2),
+    )
 
 pub measure_list-returns-clause-found : goal.measure_list-returns-clause-found
 measure_list-returns-clause-found t c =
-    let found = c.in_ok-found.ensures.found in
+    let all = rw (drop_all c.loop-item.item-index c.args.items.now c.loop-item-test.false) at c.loop-item.invariant in
     let counted = cost_count c.args.items.now c.args.at.around.limits.now (scope_in c.args.at) in
+    let many = as_many (exprs_view c.args.items.now) c.args.at.around.limits.now (scope_in c.args.at) in
     let left = c.in_ok-left.ensures.found in (
-      rw (c.deref.ensures.value, found.0) at c.in_ok-size.ensures,
-      omega (arith, found.1, left.0),
-      omega (arith, found.2, left.1),
+      c.in_ok-size.ensures _ (sym many ∙ counted) (sym (join_flat (size_view c.loop-item.joined)) ∙ all.0),
+      omega (arith, all.1, counted, left.0),
+      omega (arith, all.2, left.1),
     )
+
+pub measure_list-returns-in_err-left-clause-fault : goal.measure_list-returns-in_err-left-clause-fault
+measure_list-returns-in_err-left-clause-fault t c =
+    let all = rw (drop_all c.loop-item.item-index c.args.items.now c.loop-item-test.false) at c.loop-item.invariant in
+    let counted = cost_count c.args.items.now c.args.at.around.limits.now (scope_in c.args.at) in
+    let exit = c.from_residual-in_err-left in
+    exit_charge _ _ _ _ c.args.left exit.result _ exit.ensures.1 c.in_err-left.ensures.fault
+    (λ more. omega (arith, more, all.1, counted))
 
 pub measure_call-returns-clause-found : goal.measure_call-returns-clause-found
 measure_call-returns-clause-found t c =
@@ -64,35 +87,59 @@ measure_call-returns-clause-fault t c =
     ∙ c.is_choice.ensures.1 (is, sym counted ∙ three) in cc)) in
     rw whole c.measure_operands.ensures.fault
 
-pub measure_operands-returns-clause-found : goal.measure_operands-returns-clause-found
-measure_operands-returns-clause-found t c =
-    let found = c.in_ok-found.ensures.found in
-    let types = kinds (exprs_view c.args.operands.now) in
-    let sizes = sizes_of (exprs_view c.args.operands.now) c.args.at.around.limits.now (scope_in c.args.at) in
-    let part : c.call_part.result ≡ capped (call_part c.args.overload types sizes) =
-    rw (c.deref.ensures.value, found.0) at c.call_part.ensures in
-    let left = c.in_ok-left.ensures.found in
-    let fits = c.pay.ensures.fits in
-    let rest : c.in_ok-found.found.left.steps ≡ 1 + call_part c.args.overload types sizes + c.in_ok-left.left.steps =
-    paid _ _ _ _ fits part left.0 in
-    let covered = part_covers c.args.overload types sizes in
-    let small : charge_at c.args.overload types sizes < 2 ^ 64 = omega (arith, covered, rest, fits) in
-    let size = rw (c.deref-2.ensures.value, found.0) at c.in_ok-call_size.ensures in
-    (size types small, omega (arith, found.1, rest), omega (arith, found.2, left.1))
-
-pub measure_pair-returns-clause-found : goal.measure_pair-returns-clause-found
-measure_pair-returns-clause-found t c =
+pub measure_operands-returns-in_ok-other-in-len2-clause-found : goal.measure_operands-returns-in_ok-other-in-len2-clause-found
+measure_operands-returns-in_ok-other-in-len2-clause-found t c =
+    let two : length c.args.operands.now ≡ 2 = omega arith in
     let one = c.in_ok-one-in-len2.ensures.found in
     let other = c.in_ok-other-in-len2.ensures.found in
-    let left = c.in_ok-left-in-len2.ensures.found in
-    let pair = pair_found c.args.operands.now c.args.overload c.first-item.result c.second-item.result
-    c.args.at.around.limits.now (scope_in c.args.at) (size_view c.in_ok-one-in-len2.one.size)
-    (size_view c.in_ok-other-in-len2.other.size) (size_view c.in_ok-call_size-in-len2.field-0) c.args.left.steps
-    c.in_ok-one-in-len2.one.left.steps c.in_ok-other-in-len2.other.left.steps c.call_part.result
-    c.in_ok-left-in-len2.left.steps c.requires.two c.first-item.is c.second-item.is c.pay.ensures.fits
-    (one.0, one.1) (other.0, other.1) c.call_part.ensures left.0 c.in_ok-call_size-in-len2.ensures in
-    let seen = pair_seen c.args.operands.now c.first-item.result c.second-item.result c.args.at.around.limits.now (scope_in c.args.at) c.requires.two c.first-item.is c.second-item.is in
-    (pair.0, pair.1, omega (arith, one.2, other.2, left.1, seen))
+    let are = two_measured c.args.operands.now c.first-item.result c.second-item.result c.args.at.around.limits.now
+    (scope_in c.args.at) (size_view c.in_ok-one-in-len2.one.size) (size_view c.in_ok-other-in-len2.other.size)
+    c.args.left c.in_ok-one-in-len2.one.left c.in_ok-other-in-len2.other.left two c.first-item.is c.second-item.is
+    one.0 one.1 one.2 other.0 other.1 other.2 in
+    call_found c.args.overload _ _ _ _ _ _ c.call_of-in-len2.result are c.call_of-in-len2.ensures.found
+
+pub measure_operands-returns-in_ok-other-in-len2-clause-fault : goal.measure_operands-returns-in_ok-other-in-len2-clause-fault
+measure_operands-returns-in_ok-other-in-len2-clause-fault t c =
+    let two : length c.args.operands.now ≡ 2 = omega arith in
+    let one = c.in_ok-one-in-len2.ensures.found in
+    let other = c.in_ok-other-in-len2.ensures.found in
+    let are = two_measured c.args.operands.now c.first-item.result c.second-item.result c.args.at.around.limits.now
+    (scope_in c.args.at) (size_view c.in_ok-one-in-len2.one.size) (size_view c.in_ok-other-in-len2.other.size)
+    c.args.left c.in_ok-one-in-len2.one.left c.in_ok-other-in-len2.other.left two c.first-item.is c.second-item.is
+    one.0 one.1 one.2 other.0 other.1 other.2 in
+    call_short c.args.overload _ _ _ _ _ _ c.call_of-in-len2.result are c.call_of-in-len2.ensures.fault
+
+pub measure_operands-returns-in_ok-one-in-len1-clause-found : goal.measure_operands-returns-in_ok-one-in-len1-clause-found
+measure_operands-returns-in_ok-one-in-len1-clause-found t c =
+    let single : length c.args.operands.now ≡ 1 = omega arith in
+    let one = c.in_ok-one-in-len1.ensures.found in
+    let are = one_measured c.args.operands.now c.only-item.result c.args.at.around.limits.now (scope_in c.args.at)
+    (size_view c.in_ok-one-in-len1.one.size) c.args.left c.in_ok-one-in-len1.one.left single c.only-item.is
+    one.0 one.1 one.2 in
+    call_found c.args.overload _ _ _ _ _ _ c.call_of.result are c.call_of.ensures.found
+
+pub measure_operands-returns-in_ok-one-in-len1-clause-fault : goal.measure_operands-returns-in_ok-one-in-len1-clause-fault
+measure_operands-returns-in_ok-one-in-len1-clause-fault t c =
+    let single : length c.args.operands.now ≡ 1 = omega arith in
+    let one = c.in_ok-one-in-len1.ensures.found in
+    let are = one_measured c.args.operands.now c.only-item.result c.args.at.around.limits.now (scope_in c.args.at)
+    (size_view c.in_ok-one-in-len1.one.size) c.args.left c.in_ok-one-in-len1.one.left single c.only-item.is
+    one.0 one.1 one.2 in
+    call_short c.args.overload _ _ _ _ _ _ c.call_of.result are c.call_of.ensures.fault
+
+pub measure_operands-returns-in_ok-found-in_default-clause-found : goal.measure_operands-returns-in_ok-found-in_default-clause-found
+measure_operands-returns-in_ok-found-in_default-clause-found t c =
+    let found = c.in_ok-found-in_default.ensures.found in
+    let are = all_measured c.args.operands.now c.args.at.around.limits.now (scope_in c.args.at) _ c.args.left
+    c.in_ok-found-in_default.found.left found.0 found.1 found.2 in
+    call_found c.args.overload _ _ _ _ _ _ c.call_of-in_default.result are (rw c.deref.ensures.value at c.call_of-in_default.ensures.found)
+
+pub measure_operands-returns-in_ok-found-in_default-clause-fault : goal.measure_operands-returns-in_ok-found-in_default-clause-fault
+measure_operands-returns-in_ok-found-in_default-clause-fault t c =
+    let found = c.in_ok-found-in_default.ensures.found in
+    let are = all_measured c.args.operands.now c.args.at.around.limits.now (scope_in c.args.at) _ c.args.left
+    c.in_ok-found-in_default.found.left found.0 found.1 found.2 in
+    call_short c.args.overload _ _ _ _ _ _ c.call_of-in_default.result are (rw c.deref.ensures.value at c.call_of-in_default.ensures.fault)
 
 pub measure_conditional-returns-clause-found : goal.measure_conditional-returns-clause-found
 measure_conditional-returns-clause-found t c =
@@ -177,14 +224,15 @@ pub measure_parts-returns-clause-found : goal.measure_parts-returns-clause-found
 measure_parts-returns-clause-found t c = λ kind.
     let range = c.in_ok-range.ensures.found in
     let init = c.in_ok-init.ensures.found in
+    let sized = c.in_ok-begun.ensures.found.0 ∙ init.0 in
     let accumulator = c.in_ok-accumulator.ensures.found in
     let costs = loop_costs (parts_view c.args.parts.now) kind c.args.around.limits.now (scope_view c.args.around.locals.now)
-    _ _ _ _ _ range.0 c.most-count.ensures.most c.in_ok-each.ensures init.0 accumulator.0 in
+    _ _ _ _ _ range.0 c.most-count.ensures.most c.in_ok-each.ensures sized accumulator.0 in
     let seen = loop_seen (parts_view c.args.parts.now) c.args.around.limits.now (scope_view c.args.around.locals.now)
-    _ _ _ _ _ range.0 c.most-count.ensures.most c.in_ok-each.ensures init.0 accumulator.0 in
+    _ _ _ _ _ range.0 c.most-count.ensures.most c.in_ok-each.ensures sized accumulator.0 in
     IfOk-weaker c.measure-3.result _ _ (λ m h. (
       h.0 ∙ loop_size (parts_view c.args.parts.now) kind c.args.around.limits.now (scope_view c.args.around.locals.now)
-          _ _ _ _ _ range.0 c.most-count.ensures.most c.in_ok-each.ensures init.0 accumulator.0,
+          _ _ _ _ _ range.0 c.most-count.ensures.most c.in_ok-each.ensures sized accumulator.0,
       omega (
         arith,
         costs,
@@ -193,7 +241,7 @@ measure_parts-returns-clause-found t c = λ kind.
         c.most-count.ensures.most,
         c.in_ok-opened.ensures.found.0,
         init.1,
-        c.in_ok-stored.ensures.found.0,
+        c.in_ok-begun.ensures.found.1,
         accumulator.1,
         c.in_ok-closed.ensures.found.0,
         h.1,
@@ -204,7 +252,7 @@ measure_parts-returns-clause-found t c = λ kind.
         range.2,
         c.in_ok-opened.ensures.found.1,
         init.2,
-        c.in_ok-stored.ensures.found.1,
+        c.in_ok-begun.ensures.found.2,
         accumulator.2,
         c.in_ok-closed.ensures.found.1,
         h.2,
@@ -216,11 +264,12 @@ measure_parts-returns-in_err-accumulator-clause-fault t c = λ kind.
     let exit = c.from_residual-in_err-accumulator in
     let range = c.in_ok-range.ensures.found in
     let init = c.in_ok-init.ensures.found in
+    let sized = c.in_ok-begun.ensures.found.0 ∙ init.0 in
     let costs = loop_costs (parts_view c.args.parts.now) kind c.args.around.limits.now (scope_view c.args.around.locals.now)
-    _ _ _ _ _ range.0 c.most-count.ensures.most c.in_ok-each.ensures init.0 refl in
+    _ _ _ _ _ range.0 c.most-count.ensures.most c.in_ok-each.ensures sized refl in
     let seen = loop_seen (parts_view c.args.parts.now) c.args.around.limits.now (scope_view c.args.around.locals.now)
-    _ _ _ _ _ range.0 c.most-count.ensures.most c.in_ok-each.ensures init.0 refl in
-    exit_more _ _ c.in_ok-stored.stored _ _ c.args.left exit.result _ exit.ensures.1 c.in_err-accumulator.ensures.fault
+    _ _ _ _ _ range.0 c.most-count.ensures.most c.in_ok-each.ensures sized refl in
+    exit_more _ _ c.in_ok-begun.begun.left _ _ c.args.left exit.result _ exit.ensures.1 c.in_err-accumulator.ensures.fault
     (λ more. omega (
       arith,
       costs,
@@ -229,7 +278,7 @@ measure_parts-returns-in_err-accumulator-clause-fault t c = λ kind.
       c.most-count.ensures.most,
       c.in_ok-opened.ensures.found.0,
       init.1,
-      c.in_ok-stored.ensures.found.0,
+      c.in_ok-begun.ensures.found.1,
       more,
     ))
     (λ more. omega (
@@ -238,7 +287,7 @@ measure_parts-returns-in_err-accumulator-clause-fault t c = λ kind.
       range.2,
       c.in_ok-opened.ensures.found.1,
       init.2,
-      c.in_ok-stored.ensures.found.1,
+      c.in_ok-begun.ensures.found.2,
       more,
     ))
 
@@ -247,9 +296,10 @@ measure_parts-returns-in_err-closed-clause-fault t c = λ kind.
     let exit = c.from_residual-in_err-closed in
     let range = c.in_ok-range.ensures.found in
     let init = c.in_ok-init.ensures.found in
+    let sized = c.in_ok-begun.ensures.found.0 ∙ init.0 in
     let accumulator = c.in_ok-accumulator.ensures.found in
     let costs = loop_costs (parts_view c.args.parts.now) kind c.args.around.limits.now (scope_view c.args.around.locals.now)
-    _ _ _ _ _ range.0 c.most-count.ensures.most c.in_ok-each.ensures init.0 accumulator.0 in
+    _ _ _ _ _ range.0 c.most-count.ensures.most c.in_ok-each.ensures sized accumulator.0 in
     exit_charge _ _ _ _ c.args.left exit.result _ exit.ensures.1 c.in_err-closed.ensures.fault
     (λ more. omega (
       arith,
@@ -259,7 +309,7 @@ measure_parts-returns-in_err-closed-clause-fault t c = λ kind.
       c.most-count.ensures.most,
       c.in_ok-opened.ensures.found.0,
       init.1,
-      c.in_ok-stored.ensures.found.0,
+      c.in_ok-begun.ensures.found.1,
       accumulator.1,
       more,
     ))
@@ -268,11 +318,12 @@ pub measure_parts-returns-clause-fault : goal.measure_parts-returns-clause-fault
 measure_parts-returns-clause-fault t c = λ kind.
     let range = c.in_ok-range.ensures.found in
     let init = c.in_ok-init.ensures.found in
+    let sized = c.in_ok-begun.ensures.found.0 ∙ init.0 in
     let accumulator = c.in_ok-accumulator.ensures.found in
     let costs = loop_costs (parts_view c.args.parts.now) kind c.args.around.limits.now (scope_view c.args.around.locals.now)
-    _ _ _ _ _ range.0 c.most-count.ensures.most c.in_ok-each.ensures init.0 accumulator.0 in
+    _ _ _ _ _ range.0 c.most-count.ensures.most c.in_ok-each.ensures sized accumulator.0 in
     let seen = loop_seen (parts_view c.args.parts.now) c.args.around.limits.now (scope_view c.args.around.locals.now)
-    _ _ _ _ _ range.0 c.most-count.ensures.most c.in_ok-each.ensures init.0 accumulator.0 in
+    _ _ _ _ _ range.0 c.most-count.ensures.most c.in_ok-each.ensures sized accumulator.0 in
     last_more _ _ c.in_ok-closed.closed _ _ c.args.left c.measure-3.result
     (λ more. omega (
       arith,
@@ -282,7 +333,7 @@ measure_parts-returns-clause-fault t c = λ kind.
       c.most-count.ensures.most,
       c.in_ok-opened.ensures.found.0,
       init.1,
-      c.in_ok-stored.ensures.found.0,
+      c.in_ok-begun.ensures.found.1,
       accumulator.1,
       c.in_ok-closed.ensures.found.0,
       more,
@@ -293,7 +344,7 @@ measure_parts-returns-clause-fault t c = λ kind.
       range.2,
       c.in_ok-opened.ensures.found.1,
       init.2,
-      c.in_ok-stored.ensures.found.1,
+      c.in_ok-begun.ensures.found.2,
       accumulator.2,
       c.in_ok-closed.ensures.found.1,
       more,

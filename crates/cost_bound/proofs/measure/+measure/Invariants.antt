@@ -1,6 +1,7 @@
 use Rattle.std.proofs.Common.{◌≡◌, ◌+◌, ◌++◌, drop}
 use Rattle.cel_types.specs.private.ExprViews.{exprs_view, parts_view}
-use Rattle.cel_costs.specs.Costs.{costs_of, grown, sizes_of, total, turns_cost}
+use Rattle.cel_costs.specs.Costs.{costs_of, grown, join_all, sizes_of, total, turns_cost}
+use Rattle.cel_costs.specs.Sizes.{join}
 use Rattle.cel_costs.specs.Visits.{turns_visits, visits_of_each}
 use Rattle.cost_bound.specs.private.Measuring.{next_in, scope_in, turn_in, turn_visits_in}
 use Rattle.cost_bound.specs.private.SizeView.{size_view, sizes_view}
@@ -15,6 +16,16 @@ invariant-measure_each-loop-expr l =
     ≡ total (costs_of (exprs_view l.exprs) l.at.around.limits.now (scope_in l.at)) + l.rest.steps)
     × (l.initial.rest.visits + visits_of_each (exprs_view (drop l.expr-index l.exprs)) l.at.around.limits.now (scope_in l.at)
     ≡ visits_of_each (exprs_view l.exprs) l.at.around.limits.now (scope_in l.at) + l.rest.visits)
+
+abbrev pub invariant-measure_list-loop-item : goal.invariant-measure_list-loop-item
+invariant-measure_list-loop-item l =
+    (join (size_view l.joined)
+    (join_all (sizes_of (exprs_view (drop l.item-index l.items)) l.at.around.limits.now (scope_in l.at)))
+    ≡ join_all (sizes_of (exprs_view l.items) l.at.around.limits.now (scope_in l.at)))
+    × (l.initial.rest.steps + total (costs_of (exprs_view (drop l.item-index l.items)) l.at.around.limits.now (scope_in l.at))
+    ≡ total (costs_of (exprs_view l.items) l.at.around.limits.now (scope_in l.at)) + l.rest.steps)
+    × (l.initial.rest.visits + visits_of_each (exprs_view (drop l.item-index l.items)) l.at.around.limits.now (scope_in l.at)
+    ≡ visits_of_each (exprs_view l.items) l.at.around.limits.now (scope_in l.at) + l.rest.visits)
 
 abbrev pub invariant-measure_turns-loop-others : goal.invariant-measure_turns-loop-others
 invariant-measure_turns-loop-others l =
