@@ -54,6 +54,11 @@ def deep_list(levels):
     return flag(2, 0) + text(7, b""), type_entry(0, inner)
 
 
+def empty_map():
+    """An empty map, and the entry with its type."""
+    return flag(2, 0) + text(8, b""), type_entry(0, text(7, text(1, INT) + text(2, INT)))
+
+
 def choices(branches):
     """A tree of conditionals over the branches."""
     if len(branches) == 1:
@@ -142,12 +147,12 @@ def made_against():
         yield f"{name}, compared", joined_lists(levels, loops, leaves, True)
 
 
-def looped(names, step, turns=2):
+def looped(names, step, turns=2, entry=b""):
     """Loops of so many turns, one in another, whose texts grow by what the innermost one's step gives."""
     grown = choice(step, X, X)
     for level in reversed(range(len(names))):
         grown = gather(ones(turns), X, plus(ident(names[level]), grown), X, names[level], b"x%d" % level)
-    return checked(length(grown))
+    return checked(length(grown), entry)
 
 
 def made_against_formulas():
@@ -340,6 +345,11 @@ def made_against_visits():
     for kind, count, make in kinds:
         yield f"11 nested loops of 2 turns, with {count} branches, each with {kind}", looped(
             names, choices([make(one, other) for one, other in two[:count]]))
+    empty, entry = empty_map()
+    for kind, count, item in (("450 empty maps", 4, empty), ("75 maps", 8, pairs((integer(1), integer(2))))):
+        items_of = items(*[item] * int(kind.split()[0]))
+        yield f"11 nested loops of 2 turns, with {count} branches, each with a list of {kind}", looped(
+            names, choices([is_short(items_of)] * count), entry=entry)
 
 
 def turned(names, test):
