@@ -76,27 +76,29 @@ def until(is_so, patience=PATIENCE):
 
 
 class Authoriser:
-    """`rbacd serve` at a Unix socket, whose control plane is a file."""
+    """`rbacd serve` at a TCP socket that this process holds, as systemd does; its control plane is a file."""
 
     def __init__(self, program, folder, settings):
         self.program, self.folder, self.process = program, folder, None
+        self.listener = socket.create_server(("127.0.0.1", 0), backlog=1024)
+        self.port = self.listener.getsockname()[1]
         text = (HERE / settings).read_text()
-        for place in ("/run/rbacd", "/etc/rbacd", "/var/log/rbacd"):
+        for place in ("/etc/rbacd", "/var/log/rbacd"):
             text = text.replace(place, str(folder))
         it = {**json.loads(text), "admin": None, "backoff": {"first": 100, "greatest": 200}}
         self.mapped, self.required = list(it["map"].values()), it["require"]
         (folder / "serve.json").write_text(json.dumps(it))
 
     def start(self):
-        self.process = subprocess.Popen([self.program, "serve", "--config", "serve.json"], cwd=self.folder, stdin=subprocess.DEVNULL,
+        words = ["/bin/sh", "-c", f'exec 3<&{self.listener.fileno()}; exec "$@"', "sh", self.program, "serve", "--config", "serve.json"]
+        self.process = subprocess.Popen(words, cwd=self.folder, pass_fds=[self.listener.fileno()], stdin=subprocess.DEVNULL,
                                         stderr=open(self.folder / "errors", "ab"))
         if not until(lambda: self.is_answering() or self.process.poll() is not None) or self.process.poll() is not None:
             sys.exit(f"try: rbacd does not begin\n{(self.folder / 'errors').read_text()}")
 
     def is_answering(self):
-        with socket.socket(socket.AF_UNIX) as it, contextlib.suppress(OSError):
-            it.connect(str(self.folder / "rbacd.sock"))
-            return True
+        with contextlib.suppress(OSError, IndexError):
+            return self.straight([]) > 0
         return False
 
     def publish(self, name, version):
@@ -120,9 +122,7 @@ class Authoriser:
 
     def straight(self, fields):
         """The status of a request at its own socket, with these fields."""
-        with socket.socket(socket.AF_UNIX) as it:
-            it.settimeout(PATIENCE)
-            it.connect(str(self.folder / "rbacd.sock"))
+        with socket.create_connection(("127.0.0.1", self.port), PATIENCE) as it:
             it.sendall("".join(["GET / HTTP/1.1\r\nHost: h\r\n", *(f"{name}: {value}\r\n" for name, value in fields), "\r\n"]).encode())
             return int(it.makefile("rb").readline().split()[1])
 

@@ -1,5 +1,5 @@
 -- Asks rbacd about a request, with its method, target and fields. txn.rbacd becomes the status of the answer, or 0 if there is none.
-local ADDRESS = "unix@/run/rbacd/rbacd.sock"
+local ADDRESS, PORT = "127.0.0.1", 8181
 local SECONDS = 1
 
 local function set_of(names)
@@ -42,7 +42,7 @@ end
 local function status(text)
   local socket = core.tcp()
   socket:settimeout(SECONDS)
-  local line = socket:connect(ADDRESS) and socket:send(text) and socket:receive("*l")
+  local line = socket:connect(ADDRESS, PORT) and socket:send(text) and socket:receive("*l")
   socket:close()
   return tonumber((line or ""):match("^HTTP/1%.1 (%d%d%d) ") or 0)
 end
