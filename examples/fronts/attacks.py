@@ -226,6 +226,9 @@ def websockets(trial):
     until(lambda: Websocket(trial, "/sockets?a=x-").status() == 403)
     trial.same("after an update that denies it: a new one, the open one", (Websocket(trial, "/sockets").status(), it.echoed(TextMessage("still"))),
                (403, "still"))
+    trial.rbacd.end()
+    trial.rbacd.start()
+    trial.same("after rbacd has started again: the open one", it.echoed(TextMessage("yet")), "yet")
 
 
 def begin(trial):
