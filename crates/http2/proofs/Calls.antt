@@ -2,7 +2,7 @@
 use Rattle.std.proofs.Common.{◌≡◌, ◌≢◌, ℕ, ◌==◌, ◌%◌, Bool, true, false, not, if◌then◌else◌, Option, Some, None, is_some, Result, Ok, Err, List, [], ◌∷◌, ◌++◌, refl, sym, ap, ap₂, ◌∙◌, inl, inr, true≢false, subst, arith, append_assoc, append-nil, take, OnOk, OnErr}
 use Rattle.std.proofs.lemmas.Bool.{ne_eqb}
 use Rattle.http2.specs.Frame.{Parts, parts_of, kind_of, payload_of, is_acknowledgement}
-use Rattle.http2.specs.Trail.{Step, got, put, is_reply, IsOwn, own_data, own_window, own_ping, own_reset, own_away, AreOwn, AreWritten, connected, Begins, Adds, Unread}
+use Rattle.http2.specs.Trail.{Step, got, put, is_reply, IsOwn, own_data, own_window, own_ping, own_reset, own_away, IsMove, move_data, move_window, move_ping, AreMoves, AreOwn, AreWritten, connected, Begins, Adds, Unread}
 use Rattle.hpack.specs.Field.{Line as HeaderLine}
 use Rattle.hpack.specs.Table.{Table}
 use Rattle.http2.specs.Control.{ControlValue, Left, Next, goes_on, is_over, left_by, fields_came}
@@ -59,6 +59,17 @@ pub step_of : (r : Result (Unit {0}) AllocError) (old new : Pipe) (parts : Parts
     → (steps : List Step) × AreOwn steps × Adds steps (line old) (line new)
 step_of (Ok x) old new parts written same own = (put written.0 ∷ [], (own written.0 written.1, tt), written.3)
 step_of (Err e) old new parts written same own = ([], tt, rw same (λ trail came sent took gave law. law))
+
+-- moves on stream 1 are a client's own
+moves_own : (steps : List Step) → AreMoves 1 steps → AreOwn steps
+moves_own [] moves = tt
+moves_own (got frame ∷ steps) moves = absurd moves
+moves_own (put frame ∷ steps) (move_data kind stream, moves) = (own_data kind stream, moves_own steps moves)
+moves_own (put frame ∷ steps) (move_window kind flags, moves) = (own_window kind flags, moves_own steps moves)
+moves_own (put frame ∷ steps) (move_ping kind flags stream, moves) = (own_ping kind flags stream, moves_own steps moves)
+
+pub own_of : (n : ℕ) (steps : List Step) → n ≡ 1 → AreMoves n steps → AreOwn steps
+own_of n steps one moves = moves_own steps (subst (λ (k : ℕ). AreMoves k steps) one moves)
 
 -- nothing changed
 pub same_law : (old new : Pipe) → new ≡ old → Adds [] (line old) (line new)

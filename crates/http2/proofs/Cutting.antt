@@ -4,7 +4,7 @@ use Rattle.std.proofs.Math.Seq.{drop-append_seam, take-append_seam}
 use Rattle.std.proofs.lemmas.List.{get_or_append_left, get_or-take, length-take-le, length-drop, take-append-drop}
 use Rattle.std.proofs.lemmas.Bool.{cases_lt}
 use Rattle.std.specs.List.{AllByRecursion}
-use Rattle.http2.specs.Frame.{byte, size_of, IsFrame, IsPart, head, payload, IsTooLarge, joined, data_of, data_of_all, AreCut}
+use Rattle.http2.specs.Frame.{byte, size_of, IsFrame, IsPart, head, payload, IsTooLarge, joined, data_on, data_of_all, AreCut}
 use Rattle.http2.specs.Trail.{Step, got, put, bytes_got, data_got, bytes_put, data_put, preface, AreFrames, Line, Law}
 
 -- the first bytes
@@ -84,10 +84,10 @@ joined_append : (xs ys : List (List ℕ)) → joined (xs ++ ys) ≡ joined xs ++
 joined_append [] ys = refl
 joined_append (x ∷ xs) ys = ap (λ (t : List ℕ). x ++ t) (joined_append xs ys) ∙ sym (append_assoc x (joined xs) (joined ys))
 
-data_append : (xs ys : List (List ℕ)) → data_of_all (xs ++ ys) ≡ data_of_all xs ++ data_of_all ys
-data_append [] ys = refl
-data_append (x ∷ xs) ys = ap (λ (t : List ℕ). data_of x ++ t) (data_append xs ys)
-    ∙ sym (append_assoc (data_of x) (data_of_all xs) (data_of_all ys))
+data_append : (n : ℕ) (xs ys : List (List ℕ)) → data_of_all n (xs ++ ys) ≡ data_of_all n xs ++ data_of_all n ys
+data_append n [] ys = refl
+data_append n (x ∷ xs) ys = ap (λ (t : List ℕ). data_on n x ++ t) (data_append n xs ys)
+    ∙ sym (append_assoc (data_on n x) (data_of_all n xs) (data_of_all n ys))
 
 all_append : (xs : List (List ℕ)) (y : List ℕ) → AllByRecursion IsFrame xs → IsFrame y → AllByRecursion IsFrame (xs ++ y ∷ [])
 all_append [] y are is = (is, tt)
@@ -99,11 +99,11 @@ got_joined (got frame ∷ trail) = ap₂ (λ (a b : List ℕ). a ++ b) (got_join
     ∙ sym (joined_append (frames_got trail) (frame ∷ []))
 got_joined (put frame ∷ trail) = got_joined trail
 
-got_data : (trail : List Step) → data_got trail ≡ data_of_all (frames_got trail)
-got_data [] = refl
-got_data (got frame ∷ trail) = ap₂ (λ (a b : List ℕ). a ++ b) (got_data trail) (sym (append-nil (data_of frame)))
-    ∙ sym (data_append (frames_got trail) (frame ∷ []))
-got_data (put frame ∷ trail) = got_data trail
+got_data : (n : ℕ) (trail : List Step) → data_got n trail ≡ data_of_all n (frames_got trail)
+got_data n [] = refl
+got_data n (got frame ∷ trail) = ap₂ (λ (a b : List ℕ). a ++ b) (got_data n trail) (sym (append-nil (data_on n frame)))
+    ∙ sym (data_append n (frames_got trail) (frame ∷ []))
+got_data n (put frame ∷ trail) = got_data n trail
 
 got_frames : (trail : List Step) → AreFrames trail → AllByRecursion IsFrame (frames_got trail)
 got_frames [] are = tt
@@ -113,15 +113,15 @@ got_frames (put frame ∷ trail) (is, are) = got_frames trail are
 -- the core took a beginning of the data
 pub data_first : (trail : List Step) (came sent took gave : List ℕ) (line : Line) (frames : List (List ℕ)) (rest : List ℕ)
     → Law trail came sent took gave line → AreCut came frames rest
-    → (more : List ℕ) × (data_of_all frames ≡ (took ++ line.data_in) ++ more)
+    → (more : List ℕ) × (data_of_all line.number frames ≡ (took ++ line.data_in) ++ more)
 data_first trail came sent took gave line frames rest law cut =
     let mine : List (List ℕ) = frames_got trail in
     let whole : joined mine ++ line.rest ≡ joined frames ++ rest =
     ap (λ (t : List ℕ). t ++ line.rest) (sym (got_joined trail)) ∙ sym law.arrived ∙ cut.whole in
     let more = frames_first mine frames line.rest rest (got_frames trail law.frames) cut.are cut.ends whole in (
-      data_of_all more.0,
-      ap (λ (fs : List (List ℕ)). data_of_all fs) more.1 ∙ data_append mine more.0
-          ∙ ap (λ (t : List ℕ). t ++ data_of_all more.0) (sym (got_data trail) ∙ law.handed),
+      data_of_all line.number more.0,
+      ap (λ (fs : List (List ℕ)). data_of_all line.number fs) more.1 ∙ data_append line.number mine more.0
+          ∙ ap (λ (t : List ℕ). t ++ data_of_all line.number more.0) (sym (got_data line.number trail) ∙ law.handed),
     )
 
 -- the frames of a trail that were written, the oldest first
@@ -136,11 +136,11 @@ put_joined (got frame ∷ trail) = put_joined trail
 put_joined (put frame ∷ trail) = ap₂ (λ (a b : List ℕ). a ++ b) (put_joined trail) (sym (append-nil frame))
     ∙ sym (joined_append (frames_put trail) (frame ∷ []))
 
-put_data : (trail : List Step) → data_put trail ≡ data_of_all (frames_put trail)
-put_data [] = refl
-put_data (got frame ∷ trail) = put_data trail
-put_data (put frame ∷ trail) = ap₂ (λ (a b : List ℕ). a ++ b) (put_data trail) (sym (append-nil (data_of frame)))
-    ∙ sym (data_append (frames_put trail) (frame ∷ []))
+put_data : (n : ℕ) (trail : List Step) → data_put n trail ≡ data_of_all n (frames_put trail)
+put_data n [] = refl
+put_data n (got frame ∷ trail) = put_data n trail
+put_data n (put frame ∷ trail) = ap₂ (λ (a b : List ℕ). a ++ b) (put_data n trail) (sym (append-nil (data_on n frame)))
+    ∙ sym (data_append n (frames_put trail) (frame ∷ []))
 
 put_frames : (trail : List Step) → AreFrames trail → AllByRecursion IsFrame (frames_put trail)
 put_frames [] are = tt
@@ -150,7 +150,7 @@ put_frames (put frame ∷ trail) (is, are) = all_append (frames_put trail) frame
 -- the peer reads a beginning of what the core gave
 pub said_first : (trail : List Step) (came sent took gave : List ℕ) (line : Line) (bytes : List ℕ) (frames : List (List ℕ)) (rest : List ℕ)
     → Law trail came sent took gave line → sent ≡ preface ++ bytes → AreCut bytes frames rest
-    → (more : List ℕ) × (gave ≡ data_of_all frames ++ more)
+    → (more : List ℕ) × (gave ≡ data_of_all line.number frames ++ more)
 said_first trail came sent took gave line bytes frames rest law begins cut =
     let mine : List (List ℕ) = frames_put trail in
     let behind : bytes ++ line.out ≡ bytes_put trail =
@@ -160,8 +160,8 @@ said_first trail came sent took gave line bytes frames rest law begins cut =
     sym (append_assoc (joined frames) rest line.out) ∙ ap (λ (t : List ℕ). t ++ line.out) (sym cut.whole) ∙ behind
     ∙ put_joined trail ∙ sym (append-nil (joined mine)) in
     let more = frames_first frames mine (rest ++ line.out) [] cut.are (put_frames trail law.frames) (inl (head (omega arith))) whole in (
-      data_of_all more.0,
-      sym law.said ∙ put_data trail ∙ ap (λ (fs : List (List ℕ)). data_of_all fs) more.1 ∙ data_append frames more.0,
+      data_of_all line.number more.0,
+      sym law.said ∙ put_data line.number trail ∙ ap (λ (fs : List (List ℕ)). data_of_all line.number fs) more.1 ∙ data_append line.number frames more.0,
     )
 
 -- a first frame of bytes, and what is behind it

@@ -5,7 +5,7 @@ use Rattle.std.proofs.lemmas.List.{get_or-drop}
 use Rattle.http2.specs.Trail.{finished_after, pinged}
 use Rattle.http2.specs.declared.fault.Fault.{Fault}
 use Rattle.http2.specs.Faults.{wrong_setting, wrong_entries, or_else}
-use Rattle.http2.specs.Frame.{byte, word_at, size_of, kind_of, flags_of, stream_of, payload_of, unpadded, ends_stream, data_of, flow_of, increment_of, window_first, window_in, window_by, window_after, is_ping_by, mark_of}
+use Rattle.http2.specs.Frame.{byte, word_at, size_of, kind_of, flags_of, stream_of, payload_of, unpadded, ends_stream, data_on, flow_of, increment_of, window_first, window_in, window_by, window_after, is_ping_by, mark_of}
 
 -- settings, one after the other
 pub settings_step : (window : ℕ) (bytes : List ℕ) → 6 ≤ length bytes
@@ -23,40 +23,40 @@ pub other_flow : (frame : List ℕ) (kind : ℕ) → kind_of frame ≡ kind → 
 other_flow frame kind is not =
     ap (λ (b : Bool). if b then length (payload_of frame) else 0) (ne_eqb (kind_of frame) 0 (λ zero. not (sym is ∙ zero)))
 
-abbrev data_if : Bool → List ℕ → List ℕ
-data_if kind frame = if kind then (if stream_of frame == 1 then (if (flags_of frame / 8 % 2) == 1 then unpadded (payload_of frame) else payload_of frame) else []) else []
+abbrev data_if : Bool → ℕ → List ℕ → List ℕ
+data_if kind stream frame = if kind then (if stream_of frame == stream then (if (flags_of frame / 8 % 2) == 1 then unpadded (payload_of frame) else payload_of frame) else []) else []
 
-pub other_data : (frame : List ℕ) (kind : ℕ) → kind_of frame ≡ kind → kind ≢ 0 → data_of frame ≡ []
-other_data frame kind is not =
-    ap (λ (b : Bool). data_if b frame) (ne_eqb (kind_of frame) 0 (λ zero. not (sym is ∙ zero)))
+pub other_data : (stream : ℕ) (frame : List ℕ) (kind : ℕ) → kind_of frame ≡ kind → kind ≢ 0 → data_on stream frame ≡ []
+other_data stream frame kind is not =
+    ap (λ (b : Bool). data_if b stream frame) (ne_eqb (kind_of frame) 0 (λ zero. not (sym is ∙ zero)))
 
 -- a DATA frame of the call without padding
-abbrev pub data_by : ℕ → ℕ → ℕ → List ℕ → List ℕ
-data_by k s g p = if k == 0 then (if s == 1 then (if (g / 8 % 2) == 1 then unpadded p else p) else []) else []
+abbrev pub data_by : ℕ → Bool → ℕ → List ℕ → List ℕ
+data_by k s g p = if k == 0 then (if s then (if (g / 8 % 2) == 1 then unpadded p else p) else []) else []
 
-pub plain_data : (frame payload : List ℕ) (flags : ℕ) → kind_of frame ≡ 0 → stream_of frame ≡ 1 → flags_of frame ≡ flags
-    → payload_of frame ≡ payload → data_by 0 1 flags payload ≡ payload → data_of frame ≡ payload
-plain_data frame payload flags kind stream flags_is payload_is plain =
-    ap (λ (k : ℕ). data_by k (stream_of frame) (flags_of frame) (payload_of frame)) kind
-    ∙ ap (λ (s : ℕ). data_by 0 s (flags_of frame) (payload_of frame)) stream
-    ∙ ap (λ (g : ℕ). data_by 0 1 g (payload_of frame)) flags_is
-    ∙ ap (λ (p : List ℕ). data_by 0 1 flags p) payload_is ∙ plain
+pub plain_data : (number : ℕ) (frame payload : List ℕ) (flags : ℕ) → kind_of frame ≡ 0 → stream_of frame ≡ number → flags_of frame ≡ flags
+    → payload_of frame ≡ payload → data_by 0 true flags payload ≡ payload → data_on number frame ≡ payload
+plain_data number frame payload flags kind stream flags_is payload_is plain =
+    ap (λ (k : ℕ). data_by k (stream_of frame == number) (flags_of frame) (payload_of frame)) kind
+    ∙ ap (λ (s : Bool). data_by 0 s (flags_of frame) (payload_of frame)) (eq-eqb (stream_of frame) number stream)
+    ∙ ap (λ (g : ℕ). data_by 0 true g (payload_of frame)) flags_is
+    ∙ ap (λ (p : List ℕ). data_by 0 true flags p) payload_is ∙ plain
 
 pub plain_flow : (frame payload : List ℕ) → kind_of frame ≡ 0 → payload_of frame ≡ payload → flow_of frame ≡ length payload
 plain_flow frame payload kind is =
     ap (λ (k : ℕ). if k == 0 then length (payload_of frame) else 0) kind ∙ ap (λ (p : List ℕ). length p) is
 
 -- settings are checked one after the other
-pub entries_step : (bytes : List ℕ) → 6 ≤ length bytes
-    → wrong_setting (byte bytes 0 * 256 + byte bytes 1) (word_at bytes 2) ≡ None
-    → wrong_entries bytes ≡ wrong_entries (drop 6 bytes)
-entries_step [] few fine = absurd (omega (arith, few))
-entries_step (a ∷ []) few fine = absurd (omega (arith, few))
-entries_step (a ∷ b ∷ []) few fine = absurd (omega (arith, few))
-entries_step (a ∷ b ∷ c ∷ []) few fine = absurd (omega (arith, few))
-entries_step (a ∷ b ∷ c ∷ d ∷ []) few fine = absurd (omega (arith, few))
-entries_step (a ∷ b ∷ c ∷ d ∷ e ∷ []) few fine = absurd (omega (arith, few))
-entries_step (a ∷ b ∷ c ∷ d ∷ e ∷ f ∷ more) few fine = ap (λ (o : Option Fault). or_else o (wrong_entries more)) fine
+pub entries_step : (pushes : ℕ) (bytes : List ℕ) → 6 ≤ length bytes
+    → wrong_setting pushes (byte bytes 0 * 256 + byte bytes 1) (word_at bytes 2) ≡ None
+    → wrong_entries pushes bytes ≡ wrong_entries pushes (drop 6 bytes)
+entries_step pushes [] few fine = absurd (omega (arith, few))
+entries_step pushes (a ∷ []) few fine = absurd (omega (arith, few))
+entries_step pushes (a ∷ b ∷ []) few fine = absurd (omega (arith, few))
+entries_step pushes (a ∷ b ∷ c ∷ []) few fine = absurd (omega (arith, few))
+entries_step pushes (a ∷ b ∷ c ∷ d ∷ []) few fine = absurd (omega (arith, few))
+entries_step pushes (a ∷ b ∷ c ∷ d ∷ e ∷ []) few fine = absurd (omega (arith, few))
+entries_step pushes (a ∷ b ∷ c ∷ d ∷ e ∷ f ∷ more) few fine = ap (λ (o : Option Fault). or_else o (wrong_entries pushes more)) fine
 
 -- four bytes of the payload are those behind the head
 payload_word : (frame : List ℕ) → word_at (payload_of frame) 0 ≡ word_at frame 9

@@ -3,3 +3,8 @@ mod Frames
 mod Putting
 mod Cutting
 mod Calls
+mod Opened
+mod Serves
+mod Turns
+mod Acts
+mod Begins

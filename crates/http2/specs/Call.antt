@@ -44,9 +44,9 @@ AreReplies (put frame ∷ steps) parts = (is_reply frame ≡ true) × (parts ≡
 -- 2^63 octets count as such
 pub data IsBeyond (u : Unread) (frame : List ℕ) : Type 0 where
   credit : u.credit < flow_of frame → IsBeyond u frame
-  stream : 2 ^ 31 ≤ window_after u.window frame + (u.stream + increment_of 1 frame) - u.used → IsBeyond u frame
+  stream : 2 ^ 31 ≤ window_after u.window frame + (u.stream + increment_of u.number frame) - u.used → IsBeyond u frame
   connection : 2 ^ 31 ≤ 65535 + (u.connection + increment_of 0 frame) - u.used → IsBeyond u frame
-  stream_sum : 2 ^ 63 ≤ u.stream + increment_of 1 frame → IsBeyond u frame
+  stream_sum : 2 ^ 63 ≤ u.stream + increment_of u.number frame → IsBeyond u frame
   connection_sum : 2 ^ 63 ≤ u.connection + increment_of 0 frame → IsBeyond u frame
 
 -- why what is unread cannot be read on

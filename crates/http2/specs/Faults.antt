@@ -1,4 +1,4 @@
--- What is wrong with a frame of a client's peer by itself (RFC 9113, 6.1 to 6.10): the first fault, with its code.
+-- What is wrong with a frame of the peer by itself (RFC 9113, 6.1 to 6.10): the first fault, with its code.
 use Rattle.std.specs.Prelude.{ℕ, ◌+◌, ◌*◌, ◌-◌, ◌/◌, ◌%◌, ◌==◌, nat_lt, Bool, not, Option, Some, None, Result, Ok, Err, List, [], ◌∷◌, length, if◌then◌else◌}
 use Rattle.http2.specs.Frame.{byte, word_at, kind_of, flags_of, stream_of, payload_of}
 use Rattle.http2.specs.declared.fault.Code.{Code}
@@ -64,31 +64,32 @@ wrong_priority on_stream payload =
 abbrev pub wrong_reset : Bool → List ℕ → Option Fault
 wrong_reset on_stream payload = if on_stream then (if length payload == 4 then None else frame_size) else protocol
 
--- 6.5.2: a server takes no pushes; a window is below 2^31; frames have 2^14 to 2^24 - 1 bytes at most
-abbrev pub wrong_setting : ℕ → ℕ → Option Fault
-wrong_setting number value =
-    if number == 2 then (if value == 0 then None else protocol)
+-- 6.5.2: a server takes no pushes, so its setting is at most 0, and a client's at most 1; a window is below 2^31; frames have
+-- 2^14 to 2^24 - 1 bytes at most
+abbrev pub wrong_setting : ℕ → ℕ → ℕ → Option Fault
+wrong_setting pushes number value =
+    if number == 2 then (if nat_lt pushes value then protocol else None)
     else if number == 4 then (if nat_lt 2147483647 value then Some (Connection Code.FlowControl) else None)
     else if number == 5 then (if nat_lt value 16384 then protocol else if nat_lt 16777215 value then protocol else None)
     else None
 
 -- the first fault of settings, each of 6 bytes: its number and its value
-abbrev pub wrong_entries : List ℕ → Option Fault
-wrong_entries (a ∷ b ∷ c ∷ d ∷ e ∷ f ∷ more) =
-    or_else (wrong_setting (a * 256 + b) (word_at (a ∷ b ∷ c ∷ d ∷ e ∷ f ∷ []) 2)) (wrong_entries more)
-wrong_entries [] = None
-wrong_entries (a ∷ []) = None
-wrong_entries (a ∷ b ∷ []) = None
-wrong_entries (a ∷ b ∷ c ∷ []) = None
-wrong_entries (a ∷ b ∷ c ∷ d ∷ []) = None
-wrong_entries (a ∷ b ∷ c ∷ d ∷ e ∷ []) = None
+abbrev pub wrong_entries : ℕ → List ℕ → Option Fault
+wrong_entries pushes (a ∷ b ∷ c ∷ d ∷ e ∷ f ∷ more) =
+    or_else (wrong_setting pushes (a * 256 + b) (word_at (a ∷ b ∷ c ∷ d ∷ e ∷ f ∷ []) 2)) (wrong_entries pushes more)
+wrong_entries pushes [] = None
+wrong_entries pushes (a ∷ []) = None
+wrong_entries pushes (a ∷ b ∷ []) = None
+wrong_entries pushes (a ∷ b ∷ c ∷ []) = None
+wrong_entries pushes (a ∷ b ∷ c ∷ d ∷ []) = None
+wrong_entries pushes (a ∷ b ∷ c ∷ d ∷ e ∷ []) = None
 
 -- SETTINGS: on no stream; an acknowledgement is empty, and else there are whole settings without a fault (6.5)
-abbrev pub wrong_settings : ℕ → Bool → List ℕ → Option Fault
-wrong_settings flags on_stream payload =
+abbrev pub wrong_settings : ℕ → ℕ → Bool → List ℕ → Option Fault
+wrong_settings pushes flags on_stream payload =
     if on_stream then protocol
     else if has_flag 1 flags then (if length payload == 0 then None else frame_size)
-    else if length payload % 6 == 0 then wrong_entries payload else frame_size
+    else if length payload % 6 == 0 then wrong_entries pushes payload else frame_size
 
 -- PING: on no stream, of 8 bytes (6.7)
 abbrev pub wrong_ping : Bool → List ℕ → Option Fault
@@ -109,14 +110,14 @@ wrong_update on_stream payload =
 abbrev pub wrong_continuation : Bool → Option Fault
 wrong_continuation on_stream = if on_stream then None else protocol
 
--- a frame of this type, with these flags; pushes were refused (6.6), and unknown types say nothing (4.1)
-abbrev pub wrong_by : ℕ → ℕ → Bool → List ℕ → Option Fault
-wrong_by kind flags on_stream payload =
+-- a frame of this type, with these flags; pushes were refused, or are a server's (6.6), and unknown types say nothing (4.1)
+abbrev pub wrong_by : ℕ → ℕ → ℕ → Bool → List ℕ → Option Fault
+wrong_by pushes kind flags on_stream payload =
     if kind == 0 then wrong_data flags on_stream payload
     else if kind == 1 then wrong_headers flags on_stream payload
     else if kind == 2 then wrong_priority on_stream payload
     else if kind == 3 then wrong_reset on_stream payload
-    else if kind == 4 then wrong_settings flags on_stream payload
+    else if kind == 4 then wrong_settings pushes flags on_stream payload
     else if kind == 5 then protocol
     else if kind == 6 then wrong_ping on_stream payload
     else if kind == 7 then wrong_goaway on_stream payload
@@ -124,6 +125,14 @@ wrong_by kind flags on_stream payload =
     else if kind == 9 then wrong_continuation on_stream
     else None
 
--- the first fault of a frame, by its parts
+-- the first fault of a frame, by its parts, and by the most that the peer may say of pushes
+abbrev pub fault_by : ℕ → List ℕ → Option Fault
+fault_by pushes frame = wrong_by pushes (kind_of frame) (flags_of frame) (not (stream_of frame == 0)) (payload_of frame)
+
+-- that of a server's frame
 abbrev pub fault_of : List ℕ → Option Fault
-fault_of frame = wrong_by (kind_of frame) (flags_of frame) (not (stream_of frame == 0)) (payload_of frame)
+fault_of frame = fault_by 0 frame
+
+-- that of a client's frame
+abbrev pub fault_of_client : List ℕ → Option Fault
+fault_of_client frame = fault_by 1 frame

@@ -78,13 +78,29 @@ has_priority frame = (flags_of frame / 32 % 2) == 1
 abbrev pub fragment_of : List ℕ → List ℕ
 fragment_of frame = if has_priority frame then drop 5 (content_of frame) else content_of frame
 
--- the bytes that a frame brings on the call's stream
+-- the bytes that a frame brings on a stream
+abbrev pub data_on : ℕ → List ℕ → List ℕ
+data_on stream frame = if kind_of frame == 0 then (if stream_of frame == stream then content_of frame else []) else []
+
+-- the bytes that a frame brings on the stream of a client's call, which is 1
 abbrev pub data_of : List ℕ → List ℕ
-data_of frame = if kind_of frame == 0 then (if stream_of frame == 1 then content_of frame else []) else []
+data_of frame = data_on 1 frame
 
 -- the bytes of a frame that count for flow control: a DATA frame's payload, padding too
 abbrev pub flow_of : List ℕ → ℕ
 flow_of frame = if kind_of frame == 0 then length (payload_of frame) else 0
+
+-- those of them that count on a stream
+abbrev pub flow_on : ℕ → List ℕ → ℕ
+flow_on stream frame = if stream_of frame == stream then flow_of frame else 0
+
+-- the number of a call's stream that is not open yet: no frame is on it, since streams have 31 bits (4.1)
+abbrev pub unopened : ℕ
+unopened = 2147483648
+
+-- a number that a stream may have (5.1.1)
+abbrev pub IsStream : ℕ → Type 0
+IsStream number = (0 < number) × (number < 2147483648)
 
 -- how much a frame adds to the window of a stream, or of the connection (stream 0)
 abbrev pub increment_of : ℕ → List ℕ → ℕ
@@ -148,10 +164,10 @@ abbrev pub joined : List (List ℕ) → List ℕ
 joined [] = []
 joined (frame ∷ frames) = frame ++ joined frames
 
--- what their DATA frames bring on the call's stream, in order
-abbrev pub data_of_all : List (List ℕ) → List ℕ
-data_of_all [] = []
-data_of_all (frame ∷ frames) = data_of frame ++ data_of_all frames
+-- what their DATA frames bring on a stream, in order
+abbrev pub data_of_all : ℕ → List (List ℕ) → List ℕ
+data_of_all stream [] = []
+data_of_all stream (frame ∷ frames) = data_on stream frame ++ data_of_all stream frames
 
 -- THE GRAMMAR. The bytes are these frames, and behind them less than a frame, or a head that names too large a payload.
 pub record AreCut (bytes : List ℕ) (frames : List (List ℕ)) (rest : List ℕ) : Type 0 where

@@ -9,3 +9,9 @@ pub mod Control
 pub mod Controls
 pub mod Call
 pub mod Tunnels
+pub mod Gathering
+pub mod Request
+pub mod Serving
+pub mod Servings
+pub mod Served
+pub mod Servers

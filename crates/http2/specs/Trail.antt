@@ -1,6 +1,6 @@
 -- What passed on a connection with one call, and its law.
-use Rattle.std.specs.Prelude.{◌≡◌, ◌⊎◌, ◌≤◌, ◌<◌, ℕ, ◌+◌, ◌-◌, ◌==◌, min, Bool, true, false, if◌then◌else◌, Option, Some, None, List, [], ◌∷◌, ◌++◌, take}
-use Rattle.http2.specs.Frame.{IsFrame, Parts, parts_of, kind_of, flags_of, stream_of, payload_of, ends_stream, is_acknowledgement, is_ping, is_pong, mark_of, data_of, flow_of, increment_of, window_after}
+use Rattle.std.specs.Prelude.{◌≡◌, ◌≢◌, ◌⊎◌, ◌≤◌, ◌<◌, ℕ, ◌+◌, ◌-◌, ◌==◌, min, Bool, true, false, if◌then◌else◌, Option, Some, None, List, [], ◌∷◌, ◌++◌, take}
+use Rattle.http2.specs.Frame.{IsFrame, Parts, parts_of, kind_of, flags_of, stream_of, payload_of, ends_stream, is_acknowledgement, is_ping, is_pong, mark_of, data_on, flow_of, flow_on, increment_of, window_after}
 
 -- a frame came, or a frame was written
 pub data Step : Type 0 where
@@ -21,17 +21,17 @@ bytes_put [] = []
 bytes_put (got frame ∷ trail) = bytes_put trail
 bytes_put (put frame ∷ trail) = bytes_put trail ++ frame
 
--- what the DATA frames of the call brought
-abbrev pub data_got : List Step → List ℕ
-data_got [] = []
-data_got (got frame ∷ trail) = data_got trail ++ data_of frame
-data_got (put frame ∷ trail) = data_got trail
+-- what the DATA frames of a stream brought
+abbrev pub data_got : ℕ → List Step → List ℕ
+data_got stream [] = []
+data_got stream (got frame ∷ trail) = data_got stream trail ++ data_on stream frame
+data_got stream (put frame ∷ trail) = data_got stream trail
 
--- what the DATA frames that were written took along
-abbrev pub data_put : List Step → List ℕ
-data_put [] = []
-data_put (got frame ∷ trail) = data_put trail
-data_put (put frame ∷ trail) = data_put trail ++ data_of frame
+-- what the DATA frames of a stream that were written took along
+abbrev pub data_put : ℕ → List Step → List ℕ
+data_put stream [] = []
+data_put stream (got frame ∷ trail) = data_put stream trail
+data_put stream (put frame ∷ trail) = data_put stream trail ++ data_on stream frame
 
 -- how many bytes that count were written
 abbrev pub spent : List Step → ℕ
@@ -56,6 +56,12 @@ abbrev pub flow_got : List Step → ℕ
 flow_got [] = 0
 flow_got (got frame ∷ trail) = flow_got trail + flow_of frame
 flow_got (put frame ∷ trail) = flow_got trail
+
+-- how many of them came on a stream
+abbrev pub flow_got_on : ℕ → List Step → ℕ
+flow_got_on stream [] = 0
+flow_got_on stream (got frame ∷ trail) = flow_got_on stream trail + flow_on stream frame
+flow_got_on stream (put frame ∷ trail) = flow_got_on stream trail
 
 -- what was added to the peer's window of a stream, or of the connection (stream 0)
 abbrev pub given : ℕ → List Step → ℕ
@@ -104,6 +110,18 @@ is_reply frame =
     if kind_of frame == 4 then is_acknowledgement frame
     else if kind_of frame == 6 then is_acknowledgement frame else false
 
+-- a frame that moves bytes of a call: data on its stream, a window given back, or a ping
+pub data IsMove (number : ℕ) (frame : List ℕ) : Type 0 where
+  move_data : kind_of frame ≡ 0 → stream_of frame ≡ number → IsMove number frame
+  move_window : kind_of frame ≡ 8 → flags_of frame ≡ 0 → IsMove number frame
+  move_ping : kind_of frame ≡ 6 → flags_of frame ≡ 0 → stream_of frame ≡ 0 → IsMove number frame
+
+-- frames that were written, each such a one
+abbrev pub AreMoves : ℕ → List Step → Type 0
+AreMoves number [] = Unit {0}
+AreMoves number (got frame ∷ steps) = ⊥
+AreMoves number (put frame ∷ steps) = IsMove number frame × AreMoves number steps
+
 -- the reset of the call, as CANCEL (RFC 9113, 6.4 and 7)
 abbrev pub cancelling : Parts
 cancelling = record { kind = 3; flags = 0; stream = 1; payload = 0 ∷ 0 ∷ 0 ∷ 8 ∷ [] }
@@ -135,14 +153,15 @@ AreFrames [] = Unit {0}
 AreFrames (got frame ∷ trail) = IsFrame frame × AreFrames trail
 AreFrames (put frame ∷ trail) = IsFrame frame × AreFrames trail
 
--- each DATA frame that was written was within both windows as the peer had granted them until then
-abbrev pub IsGranted : List Step → Type 0
-IsGranted [] = Unit {0}
-IsGranted (got frame ∷ trail) = IsGranted trail
-IsGranted (put frame ∷ trail) =
-    (0 < flow_of frame → (spent trail + flow_of frame ≤ initial trail + raised 1 trail)
+-- each DATA frame that was written was within both windows, that of the stream and that of the connection, as the peer had
+-- granted them until then
+abbrev pub IsGranted : ℕ → List Step → Type 0
+IsGranted stream [] = Unit {0}
+IsGranted stream (got frame ∷ trail) = IsGranted stream trail
+IsGranted stream (put frame ∷ trail) =
+    (0 < flow_of frame → (spent trail + flow_of frame ≤ initial trail + raised stream trail)
     × (spent trail + flow_of frame ≤ 65535 + raised 0 trail))
-    × IsGranted trail
+    × IsGranted stream trail
 
 -- no DATA frame was written behind the last of the data (RFC 9113, 5.1)
 abbrev pub IsOpen : List Step → Type 0
@@ -168,6 +187,25 @@ window_frame = 0 ∷ 0 ∷ 4 ∷ 8 ∷ 0 ∷ 0 ∷ 0 ∷ 0 ∷ 0 ∷ 0 ∷ 15 �
 abbrev pub connected : List Step
 connected = put window_frame ∷ put settings_frame ∷ []
 
+-- a server's settings: one stream at once, an initial window of 1,048,581 octets, and field lists of at most 16,384
+abbrev pub greeting_frame : List ℕ
+greeting_frame = 0 ∷ 0 ∷ 18 ∷ 4 ∷ 0 ∷ 0 ∷ 0 ∷ 0 ∷ 0 ∷ 0 ∷ 3 ∷ 0 ∷ 0 ∷ 0 ∷ 1 ∷ 0 ∷ 4 ∷ 0 ∷ 16 ∷ 0 ∷ 5
+    ∷ 0 ∷ 6 ∷ 0 ∷ 0 ∷ 64 ∷ 0 ∷ []
+
+-- the frames that a server says first
+abbrev pub greeted : List Step
+greeted = put window_frame ∷ put greeting_frame ∷ []
+
+-- a frame that no stream has: no data, and no window but the connection's
+abbrev pub IsQuiet : List ℕ → Type 0
+IsQuiet frame = (kind_of frame ≢ 0) × (kind_of frame ≡ 8 → stream_of frame ≡ 0)
+
+-- each frame of the trail is such a one
+abbrev pub AreQuiet : List Step → Type 0
+AreQuiet [] = Unit {0}
+AreQuiet (got frame ∷ trail) = IsQuiet frame × AreQuiet trail
+AreQuiet (put frame ∷ trail) = IsQuiet frame × AreQuiet trail
+
 -- a trail that begins so, and then with this frame, which has the call's fields; what was written behind it is the
 -- client's own, and acknowledgements
 pub record Begins (first : List ℕ) (trail : List Step) : Type 0 where
@@ -175,9 +213,10 @@ pub record Begins (first : List ℕ) (trail : List Step) : Type 0 where
   pub whole : trail ≡ later ++ put first ∷ connected
   pub written : AreWritten later
 
--- what a client keeps: bytes of the peer that are no whole frame yet or were not looked at, data for the core, bytes
--- for the peer, and the sums of the trail; a credit is what the peer may still send
+-- what is kept: the number of the call's stream, bytes of the peer that are no whole frame yet or were not looked at, data
+-- for the core, bytes for the peer, and the sums of the trail; a credit is what the peer may still send
 pub record Line : Type 0 where
+  pub number : ℕ
   pub rest : List ℕ
   pub data_in : List ℕ
   pub out : List ℕ
@@ -190,8 +229,9 @@ pub record Line : Type 0 where
   pub finished : Bool
   pub waits : Option ℕ
 
--- the bytes that were not looked at, and the windows: those of the peer, and how much it may still send
+-- the call's stream, the bytes that were not looked at, and the windows: those of the peer, and how much it may still send
 pub record Unread : Type 0 where
+  pub number : ℕ
   pub rest : List ℕ
   pub window : ℕ
   pub stream : ℕ
@@ -211,18 +251,18 @@ allowed line = min (line.window + line.stream - line.used) (65535 + line.connect
 pub record Law (trail : List Step) (came sent took gave : List ℕ) (line : Line) : Type 0 where
   pub frames : AreFrames trail
   pub arrived : came ≡ bytes_got trail ++ line.rest
-  pub handed : data_got trail ≡ took ++ line.data_in
+  pub handed : data_got line.number trail ≡ took ++ line.data_in
   pub written : sent ++ line.out ≡ preface ++ bytes_put trail
-  pub said : data_put trail ≡ gave
-  pub granted : IsGranted trail
+  pub said : data_put line.number trail ≡ gave
+  pub granted : IsGranted line.number trail
   pub window_is : line.window ≡ initial trail
-  pub stream_is : line.stream ≡ raised 1 trail
+  pub stream_is : line.stream ≡ raised line.number trail
   pub connection_is : line.connection ≡ raised 0 trail
   pub used_is : line.used ≡ spent trail
   pub unended : IsOpen trail
   pub finished_is : line.finished ≡ is_finished trail
   pub waits_is : line.waits ≡ waiting trail
-  pub stream_given : offered trail + given 1 trail ≡ flow_got trail + line.stream_credit
+  pub stream_given : offered trail + given line.number trail ≡ flow_got_on line.number trail + line.stream_credit
   pub connection_given : 65535 + given 0 trail ≡ flow_got trail + line.connection_credit
 
 -- what passed is the same, and these steps are new, the newest first

@@ -1,7 +1,7 @@
 //! What a frame says to flow control, and what data it brings.
 
 ghost use Rattle.std.specs.Prelude.{◌≡◌, ◌≤◌, ◌<◌, ◌+◌, ◌^◌, length, drop, IfSome, IfNone};
-ghost use Rattle.http2.specs.Frame.{data_of, flow_of, increment_of, window_in, window_first, window_after, is_pong, mark_of};
+ghost use Rattle.http2.specs.Frame.{data_on, flow_of, flow_on, increment_of, window_in, window_first, window_after, is_pong, mark_of};
 ghost use Rattle.http2.specs.Trail.{ponged};
 
 use crate::frame::{DATA, Frame, PING, SETTINGS, UPDATE, word};
@@ -16,12 +16,23 @@ pub(crate) fn flow(frame: &Frame) -> usize
     0
 }
 
-/// What the frame brings on the call's stream.
-pub(crate) fn data(frame: &Frame) -> &[u8]
-    ensures found { result.now ≡ data_of frame.now.bytes.items }
-    ensures short { length result.now ≤ flow_of frame.now.bytes.items }
+/// How many bytes of the frame count on a stream.
+pub(crate) fn flow_on(stream: u32, frame: &Frame) -> usize
+    ensures found { result ≡ flow_on stream frame.now.bytes.items }
+    ensures few { result ≤ flow_of frame.now.bytes.items }
 {
-    if frame.kind() != DATA || frame.stream() != 1 {
+    if frame.stream() != stream {
+        return 0;
+    }
+    flow(frame)
+}
+
+/// What the frame brings on a stream.
+pub(crate) fn data(stream: u32, frame: &Frame) -> &[u8]
+    ensures found { result.now ≡ data_on stream frame.now.bytes.items }
+    ensures short { length result.now ≤ flow_on stream frame.now.bytes.items }
+{
+    if frame.kind() != DATA || frame.stream() != stream {
         return &[];
     }
     frame.content()

@@ -1,7 +1,7 @@
 //! What is wrong with a frame by itself (RFC 9113, 6).
 
 ghost use Rattle.std.specs.Prelude.{◌≡◌, ◌≤◌, ◌<◌, ◌+◌, length, IfOk, IfErr};
-ghost use Rattle.http2.specs.Faults.{has_flag, error_of, wrong_padding, wrong_data, before_block, padding_in, wrong_headers, wrong_priority, wrong_reset, wrong_settings, wrong_entries, wrong_setting, wrong_ping, wrong_goaway, wrong_update, wrong_continuation, fault_of};
+ghost use Rattle.http2.specs.Faults.{has_flag, error_of, wrong_padding, wrong_data, before_block, padding_in, wrong_headers, wrong_priority, wrong_reset, wrong_settings, wrong_entries, wrong_setting, wrong_ping, wrong_goaway, wrong_update, wrong_continuation, fault_by};
 
 use crate::accounts::behind;
 use crate::fault::{Code, Fault};
@@ -21,9 +21,9 @@ fn wrong(code: Code) -> Fault
     Fault::Connection(code)
 }
 
-/// Refuses a frame of a client's peer that has a fault by itself.
-pub(crate) fn check(frame: &Frame) -> Result<(), Fault>
-    ensures { error_of result ≡ fault_of frame.now.bytes.items }
+/// Refuses a frame of the peer that has a fault by itself. What a peer's setting may say of pushes is at most this.
+pub(crate) fn check(pushes: u32, frame: &Frame) -> Result<(), Fault>
+    ensures { error_of result ≡ fault_by pushes frame.now.bytes.items }
 {
     let payload = frame.payload();
     let flags = frame.flags();
@@ -33,7 +33,7 @@ pub(crate) fn check(frame: &Frame) -> Result<(), Fault>
         1 => check_headers(flags, on_stream, payload),
         2 => check_priority(on_stream, payload),
         3 => check_reset(on_stream, payload),
-        4 => check_settings(flags, on_stream, payload),
+        4 => check_settings(pushes, flags, on_stream, payload),
         5 => Err(wrong(Code::Protocol)),
         6 => check_ping(on_stream, payload),
         7 => check_goaway(on_stream, payload),
@@ -128,8 +128,8 @@ fn check_reset(on_stream: bool, payload: &[u8]) -> Result<(), Fault>
     Ok(())
 }
 
-fn check_settings(flags: u8, on_stream: bool, payload: &[u8]) -> Result<(), Fault>
-    ensures { error_of result ≡ wrong_settings flags on_stream payload.now }
+fn check_settings(pushes: u32, flags: u8, on_stream: bool, payload: &[u8]) -> Result<(), Fault>
+    ensures { error_of result ≡ wrong_settings pushes flags on_stream payload.now }
 {
     if on_stream {
         return Err(wrong(Code::Protocol));
@@ -143,26 +143,30 @@ fn check_settings(flags: u8, on_stream: bool, payload: &[u8]) -> Result<(), Faul
     if payload.len() % 6 != 0 {
         return Err(wrong(Code::FrameSize));
     }
-    check_entries(payload)
+    check_entries(pushes, payload)
 }
 
 /// The first setting that is wrong.
-fn check_entries(payload: &[u8]) -> Result<(), Fault>
-    ensures { error_of result ≡ wrong_entries payload.now }
+fn check_entries(pushes: u32, payload: &[u8]) -> Result<(), Fault>
+    ensures { error_of result ≡ wrong_entries pushes payload.now }
 {
     let mut rest = payload;
     'entries: while rest.len() >= 6 {
-        check_setting((rest[0] as u32) * 256 + rest[1] as u32, word(rest, 2))?;
+        check_setting(
+            pushes,
+            (rest[0] as u32) * 256 + rest[1] as u32,
+            word(rest, 2),
+        )?;
         rest = behind(rest);
     }
     Ok(())
 }
 
-/// What a server's setting may be. It may not say that it takes pushes.
-fn check_setting(number: u32, value: u32) -> Result<(), Fault>
-    ensures { error_of result ≡ wrong_setting number value }
+/// What a peer's setting may be.
+fn check_setting(pushes: u32, number: u32, value: u32) -> Result<(), Fault>
+    ensures { error_of result ≡ wrong_setting pushes number value }
 {
-    if number == 2 && value != 0 {
+    if number == 2 && value > pushes {
         return Err(wrong(Code::Protocol));
     }
     if number == 4 && value > 2_147_483_647 {

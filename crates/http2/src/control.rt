@@ -13,19 +13,11 @@ use crate::fields::{are_of_answer, are_plain};
 use crate::frame::{
     CONTINUATION, DATA, Frame, GOAWAY, HEAD, HEADERS, PRIORITY, RESET, SETTINGS, word,
 };
+use crate::gathering::{MOST_FIELDS, MOST_WEIGHT, TABLE};
 use crate::message::Message;
 use hpack::{Decoder, Field, HpackError};
 use std::alloc::{AllocError, Global};
 use std::mem::replace;
-
-/// The most that a header block weighs: its octets, and nine more for each part behind the first.
-const MOST_WEIGHT: usize = 32_768;
-
-/// The most octets of the fields of a header block, with 32 more for each (RFC 9113, 6.5.2).
-const MOST_FIELDS: u32 = 16_384;
-
-/// The octets of HPACK's table, which are those that a peer begins with (RFC 9113, 6.5.2).
-const TABLE: u32 = 4_096;
 
 /// How far the call is.
 #[derive(Clone, Copy, Debug, PartialEq, Eq)]
@@ -109,7 +101,7 @@ impl Control {
             (next_of over (control_view self.new))) }
         ensures alive { result ≡ Ok None → self.new.decoder.alive ≡ true }
     {
-        if let Err(fault) = check(frame) {
+        if let Err(fault) = check(0, frame) {
             return Ok(Some(End::Broken(fault)));
         }
         if self.is_misplaced(frame) {
@@ -152,7 +144,7 @@ impl Control {
         ensures alive { result ≡ Ok None → self.new.decoder.alive ≡ true }
     {
         match frame.kind() {
-            DATA => Ok(self.content_came(data(frame).len(), frame.ends_stream())),
+            DATA => Ok(self.content_came(data(1, frame).len(), frame.ends_stream())),
             HEADERS => {
                 self.unfinished = Some(frame.ends_stream());
                 self.block.clear();

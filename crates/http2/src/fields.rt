@@ -89,7 +89,7 @@ fn ends_blank(value: &[u8]) -> bool
 }
 
 /// Whether a field may have this value.
-fn is_value(value: &[u8]) -> bool
+pub(crate) fn is_value(value: &[u8]) -> bool
     ensures { result ≡ is_value value.now }
 {
     all_in_value(value) && !begins_blank(value) && !ends_blank(value)
@@ -107,7 +107,7 @@ fn is_of_connection(name: &[u8]) -> bool
 }
 
 /// Whether the field is no pseudo-field and may be there.
-fn is_plain(field: &Field) -> bool
+pub(crate) fn is_plain(field: &Field) -> bool
     ensures { result ≡ is_plain (line_of field.now) }
 {
     is_name(&field.name) && !is_of_connection(&field.name) && is_value(&field.value)

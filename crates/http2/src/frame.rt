@@ -53,7 +53,8 @@ impl Frame {
 
     /// The frame's stream; 0 is the connection.
     pub fn stream(&self) -> u32
-        ensures { result ≡ stream_of self.now.bytes.items }
+        ensures number { result ≡ stream_of self.now.bytes.items }
+        ensures small { result < 2147483648 }
     {
         word(&self.bytes, 5) % (1 << 31)
     }

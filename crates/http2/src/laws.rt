@@ -15,7 +15,7 @@ pub fn one_cutting()
 pub fn core_takes_the_data()
     ensures { (trail : List Step) (came sent took gave : List ℕ) (line : Line) (frames : List (List ℕ)) (rest : List ℕ)
         → Law trail came sent took gave line → AreCut came frames rest
-        → (more : List ℕ) × (data_of_all frames ≡ (took ++ line.data_in) ++ more) }
+        → (more : List ℕ) × (data_of_all line.number frames ≡ (took ++ line.data_in) ++ more) }
 {}
 
 /// What the peer reads behind the preface is a beginning of what the core gave, as the data of the frames that the bytes
@@ -23,7 +23,7 @@ pub fn core_takes_the_data()
 pub fn peer_reads_what_was_given()
     ensures { (trail : List Step) (came sent took gave : List ℕ) (line : Line) (bytes : List ℕ) (frames : List (List ℕ)) (rest : List ℕ)
         → Law trail came sent took gave line → sent ≡ preface ++ bytes → AreCut bytes frames rest
-        → (more : List ℕ) × (gave ≡ data_of_all frames ++ more) }
+        → (more : List ℕ) × (gave ≡ data_of_all line.number frames ++ more) }
 {}
 
 /// All bytes are cut into frames in some way.

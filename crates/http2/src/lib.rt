@@ -1,4 +1,5 @@
-//! HTTP/2 (RFC 9113) in cleartext with prior knowledge: frames in any cutting, and a client with one call of gRPC.
+//! HTTP/2 (RFC 9113) in cleartext with prior knowledge: frames in any cutting, a client with one call of gRPC, and a server of
+//! one call.
 //!
 //! A [`Tunnel`] has no socket and no clock. Its caller moves bytes, in turns:
 //!
@@ -10,9 +11,13 @@
 //!
 //! `finish` says that the core has no more, `cancel` gives the call up. A caller that wants to notice a peer that vanished
 //! calls `ping` with the time: `ping_waits` has it until the peer has acknowledged.
+//!
+//! A [`Server`] is used the same way. Once `request` has the request's fields, its caller gives `answer` the fields that begin
+//! the answer, and at the end `finish` those that end it; `over` says why the call is over.
 #![tactic(auto)]
 
 mod accounts;
+mod acting;
 mod answer;
 mod check;
 mod control;
@@ -21,11 +26,16 @@ mod end;
 mod fault;
 mod fields;
 mod frame;
+mod gathering;
 pub mod laws;
 mod message;
 mod opening;
+mod over;
 mod pipe;
 mod queue;
+mod request;
+mod server;
+mod serving;
 mod tunnel;
 mod written;
 
@@ -33,5 +43,9 @@ pub use cut::first_frame;
 pub use end::End;
 pub use fault::{Code, Fault};
 pub use frame::Frame;
+pub use over::Over;
 pub use pipe::WINDOW;
+pub use request::is_call;
+pub use server::Server;
+pub use serving::Phase;
 pub use tunnel::{PENDING, Tunnel};

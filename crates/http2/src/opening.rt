@@ -25,6 +25,7 @@ pub(crate) fn act(
 ) -> Option<End>
     requires alive { control.old.decoder.alive ≡ true }
     ensures alive { result ≡ None → control.new.decoder.alive ≡ true }
+    ensures number { pipe.new.number ≡ pipe.old.number }
     ensures rest { pipe.new.rest ≡ pipe.old.rest }
     ensures waits { length pipe.new.out ≤ length pipe.old.out + 16393 }
     ensures answers { Answers frame.now.bytes.items pipe.old control.old pipe.new control.new result }
@@ -42,6 +43,7 @@ pub(crate) fn act(
 /// Acknowledges settings and a ping.
 pub(crate) fn reply(alloc: Global, pipe: &mut Pipe, frame: &Frame) -> Result<(), AllocError>
     ensures waits { length pipe.new.out ≤ length pipe.old.out + 16393 }
+    ensures number { pipe.new.number ≡ pipe.old.number }
     ensures rest { pipe.new.rest ≡ pipe.old.rest }
     ensures unread { unread pipe.new ≡ unread pipe.old }
     ensures replied { OnOk result ((steps : List Step) × Adds steps (line pipe.old) (line pipe.new)
@@ -60,6 +62,7 @@ pub(crate) fn reply(alloc: Global, pipe: &mut Pipe, frame: &Frame) -> Result<(),
 
 /// Writes the call's fields. They are refused if they are too long for a frame.
 pub(crate) fn ask(alloc: Global, pipe: &mut Pipe, fields: &[Field]) -> Result<(), Fault>
+    ensures number { pipe.new.number ≡ pipe.old.number }
     ensures waits { length pipe.new.out ≤ length pipe.old.out + 16393 }
     ensures law { OnOk result ((frame : List ℕ) × Asks frame (map line_of fields.now)
         × (pipe.new.out ≡ pipe.old.out ++ frame) × Adds (put frame ∷ []) (line pipe.old) (line pipe.new)) }
@@ -76,7 +79,7 @@ pub(crate) fn ask(alloc: Global, pipe: &mut Pipe, fields: &[Field]) -> Result<()
 }
 
 /// Whether the encoder can write the fields.
-fn are_short(fields: &[Field]) -> bool
+pub(crate) fn are_short(fields: &[Field]) -> bool
     ensures { IsTrue result → All (λ f. IsShort (line_of f)) fields.now }
 {
     for field in fields {

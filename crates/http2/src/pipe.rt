@@ -1,8 +1,8 @@
-//! The pipe of a client with one call: all bytes go through it, so that its law holds whatever the code above does.
+//! The pipe of a call: all bytes go through it, so that its law holds whatever the code above does.
 
 ghost use Rattle.std.specs.Prelude.{◌≡◌, ◌≤◌, ◌<◌, ◌+◌, ◌-◌, ◌^◌, ◌↔◌, IsTrue, length};
 
-use crate::accounts::{after, data, flow, ponged, raise};
+use crate::accounts::{after, data, flow, flow_on, ponged, raise};
 use crate::cut::first_frame;
 use crate::fault::{Code, Fault};
 use crate::frame::{DATA, Frame, HEAD, MOST, PING, UPDATE};
@@ -19,9 +19,21 @@ const OPENING: &[u8; 64] = b"PRI * HTTP/2.0\r\n\r\nSM\r\n\r\n\
 \x00\x00\x12\x04\x00\x00\x00\x00\x00\x00\x02\x00\x00\x00\x00\x00\x04\x00\x10\x00\x05\x00\x06\x00\x00\x40\x00\
 \x00\x00\x04\x08\x00\x00\x00\x00\x00\x00\x0f\x00\x06";
 
-/// The pipe of a client with one call, which is on stream 1.
+/// What a server says first: its settings (one stream at once, the window, and 16,384 octets for the fields of a header
+/// block), and the window of the connection, raised to the same.
+const GREETING: &[u8; 40] =
+    b"\x00\x00\x12\x04\x00\x00\x00\x00\x00\x00\x03\x00\x00\x00\x01\x00\x04\x00\x10\x00\x05\
+\x00\x06\x00\x00\x40\x00\
+\x00\x00\x04\x08\x00\x00\x00\x00\x00\x00\x0f\x00\x06";
+
+/// The number of a call's stream that is not open yet: no frame is on it.
+pub(crate) const UNOPENED: u32 = 2_147_483_648;
+
+/// The pipe of a call. A client's is on stream 1, a server's on the stream that its peer opens.
 #[derive(Debug, Drop)]
 pub(crate) struct Pipe {
+    // the call's stream
+    number: u32,
     // bytes of the peer that were not looked at
     rest: Queue,
     // data for the core
@@ -38,11 +50,14 @@ pub(crate) struct Pipe {
     // how much the peer may send, and how much may be given back to it
     credit: usize,
     owed: usize,
+    // how much came on other streams, and may be given back to the connection
+    others: usize,
     // whether the last of the data were written
     finished: bool,
     // the mark of the ping that waits for its acknowledgement
     waits: Option<u64>,
     ghost bounded: { length data_in + owed + credit ≡ 1048581 },
+    ghost beside: { others ≤ credit },
     ghost short: { length rest ≤ 16393 },
     ghost stream_sum: { stream < 2 ^ 63 },
     ghost connection_sum: { connection < 2 ^ 63 },
@@ -50,22 +65,45 @@ pub(crate) struct Pipe {
 
 impl Pipe {
     ghost use Rattle.std.specs.Prelude.{◌≢◌, ◌⊎◌, min, true, false, if◌then◌else◌, Ok, None, Some, ◌++◌, ◌∷◌, ℕ, List, [], take, IfOk, IfErr, OnErr, OnOk};
-    ghost use Rattle.http2.specs.Frame.{IsFrame, IsPart, data_of, flow_of, parts_of, window_by, is_ping_by};
-    ghost use Rattle.http2.specs.Trail.{Step, got, put, connected, preface, settings_frame, window_frame, Law, Adds, Hears, Sends, Hands, Gives, AreOwn, allowed};
+    ghost use Rattle.http2.specs.Frame.{IsFrame, IsPart, IsStream, unopened, flow_of, parts_of, window_by, is_ping_by};
+    ghost use Rattle.http2.specs.Trail.{Step, got, put, connected, greeted, preface, settings_frame, greeting_frame, window_frame, AreQuiet, Law, Adds, Hears, Sends, Hands, Gives, AreMoves, allowed};
     ghost use Rattle.http2.specs.Lines.{line, unread};
     ghost use Rattle.http2.specs.Call.{IsBeyond, StopsAt};
     ghost use Rattle.http2.specs.declared.fault.Code.{Code};
     ghost use Rattle.http2.specs.declared.fault.Fault.TheVariants.{Memory, Connection};
     ghost use Rattle.http2.specs.declared.frame.Frame.{Frame};
 
-    /// A pipe whose peer was told nothing but the opening.
+    /// A client's pipe whose peer was told nothing but the opening.
     pub fn new(alloc: Global) -> Result<Pipe, AllocError>
         ensures law { IfOk result (λ p. Law connected [] [] [] [] (line p)) }
         ensures out { IfOk result (λ p. p.out ≡ preface ++ settings_frame ++ window_frame) }
+        ensures number { IfOk result (λ p. p.number ≡ 1) }
+    {
+        let pipe = Pipe::said(alloc, 1, OPENING)?;
+        Ok(pipe)
+    }
+
+    /// A server's pipe whose peer was told nothing but its settings.
+    pub fn serving(alloc: Global) -> Result<Pipe, AllocError>
+        ensures law { IfOk result (λ p. Law greeted [] preface [] [] (line p)) }
+        ensures out { IfOk result (λ p. p.out ≡ greeting_frame ++ window_frame) }
+        ensures number { IfOk result (λ p. p.number ≡ unopened) }
+    {
+        let pipe = Pipe::said(alloc, UNOPENED, GREETING)?;
+        Ok(pipe)
+    }
+
+    // A pipe whose peer was told this.
+    fn said(alloc: Global, number: u32, opening: &[u8]) -> Result<Pipe, AllocError>
+        ensures empty { IfOk result (λ p. (p.rest ≡ []) × (p.data_in ≡ []) × (p.out ≡ opening.now)) }
+        ensures windows { IfOk result (λ p. (p.window ≡ 65535) × (p.stream ≡ 0) × (p.connection ≡ 0) × (p.used ≡ 0)) }
+        ensures credits { IfOk result (λ p. (p.credit ≡ 1048581) × (p.others ≡ 0)) }
+        ensures begins { IfOk result (λ p. (p.number ≡ number) × (p.finished ≡ false) × (p.waits ≡ None)) }
     {
         let mut out = Queue::new(alloc);
-        out.push(OPENING)?;
+        out.push(opening)?;
         Ok(Pipe {
+            number,
             rest: Queue::new(alloc),
             data_in: Queue::new(alloc),
             out,
@@ -75,13 +113,41 @@ impl Pipe {
             used: 0,
             credit: WINDOW,
             owed: 0,
+            others: 0,
             finished: false,
             waits: None,
         })
     }
 
+    /// The call's stream.
+    pub fn number(&self) -> u32
+        ensures { result ≡ self.now.number }
+    {
+        self.number
+    }
+
+    /// Whether the call's stream is open.
+    pub fn is_open(&self) -> bool
+        ensures { IsTrue result ↔ IsStream self.now.number }
+    {
+        self.number > 0 && self.number < UNOPENED
+    }
+
+    /// The call's stream is this one, which was just opened.
+    pub fn open(&mut self, number: u32)
+        requires unopened { self.old.number ≡ unopened }
+        requires stream { IsStream number }
+        ensures number { self.new.number ≡ number }
+        ensures same { self.new ≡ record self.old { number = number } }
+        ensures law { (trail : List Step) (came sent took gave : List ℕ) → AreQuiet trail
+            → Law trail came sent took gave (line self.old) → Law trail came sent took gave (line self.new) }
+    {
+        self.number = number;
+    }
+
     /// Takes bytes of the peer, as many as a frame may have. Returns how many it took.
     pub fn hear(&mut self, alloc: Global, bytes: &[u8]) -> Result<usize, AllocError>
+        ensures number { self.new.number ≡ self.old.number }
         ensures out { self.new.out ≡ self.old.out }
         ensures count { IfOk result (λ n. n ≡ min (length bytes.now) (16393 - length self.old.rest)) }
         ensures law { IfOk result (λ n. Hears (take n bytes.now) (line self.old) (line self.new)) }
@@ -94,6 +160,7 @@ impl Pipe {
 
     /// The next whole frame.
     pub fn next(&mut self, alloc: Global) -> Result<Option<Frame>, Fault>
+        ensures number { self.new.number ≡ self.old.number }
         ensures out { self.new.out ≡ self.old.out }
         ensures frame { (f : Frame) → result ≡ Ok (Some f) → self.old.rest ≡ f.bytes.items ++ self.new.rest }
         ensures law { (f : Frame) → result ≡ Ok (Some f) → Adds (got f.bytes.items ∷ []) (line self.old) (line self.new) }
@@ -116,6 +183,7 @@ impl Pipe {
     fn account(&mut self, alloc: Global, frame: &Frame) -> Result<(), Fault>
         requires size { length frame.now.bytes.items ≤ length self.old.rest }
         requires first { frame.now.bytes.items ≡ take (length frame.now.bytes.items) self.old.rest }
+        ensures number { self.new.number ≡ self.old.number }
         ensures out { self.new.out ≡ self.old.out }
         ensures first { OnOk result (self.old.rest ≡ frame.now.bytes.items ++ self.new.rest) }
         ensures law { OnOk result (Adds (got frame.now.bytes.items ∷ []) (line self.old) (line self.new)) }
@@ -124,27 +192,29 @@ impl Pipe {
             × IsBeyond (unread self.old) frame.now.bytes.items)) × (self.new ≡ self.old)) }
     {
         let count = flow(frame);
+        let on_stream = flow_on(self.number, frame);
         let window = after(self.window, frame);
-        let Some(stream) = raise(self.stream, 1, frame) else {
+        let Some(stream) = raise(self.stream, self.number, frame) else {
             return Err(Fault::Connection(Code::FlowControl));
         };
         let Some(connection) = raise(self.connection, 0, frame) else {
             return Err(Fault::Connection(Code::FlowControl));
         };
-        if count > self.credit
+        if count + self.others > self.credit
             || is_beyond(window, stream, self.used)
             || is_beyond(65_535, connection, self.used)
         {
             return Err(Fault::Connection(Code::FlowControl));
         }
-        let data = data(frame);
+        let data = data(self.number, frame);
         self.data_in.push(data)?;
         self.rest.skip(frame.bytes.len());
         self.window = window;
         self.stream = stream;
         self.connection = connection;
-        self.credit -= count;
-        self.owed += count - data.len();
+        self.credit -= on_stream;
+        self.owed += on_stream - data.len();
+        self.others += count - on_stream;
         self.waits = ponged(self.waits, frame);
         Ok(())
     }
@@ -159,6 +229,7 @@ impl Pipe {
     /// The core took the first of the data.
     pub fn take(&mut self, count: usize)
         requires { count ≤ length self.old.data_in }
+        ensures number { self.new.number ≡ self.old.number }
         ensures out { self.new.out ≡ self.old.out }
         ensures unread { unread self.new ≡ unread self.old }
         ensures law { Hands (take count self.old.data_in) (line self.old) (line self.new) }
@@ -177,6 +248,7 @@ impl Pipe {
     /// The first of the bytes were sent.
     pub fn sent(&mut self, count: usize)
         requires { count ≤ length self.old.out }
+        ensures number { self.new.number ≡ self.old.number }
         ensures waits { length self.new.out ≤ length self.old.out }
         ensures unread { unread self.new ≡ unread self.old }
         ensures law { Sends (take count self.old.out) (line self.old) (line self.new) }
@@ -198,6 +270,7 @@ impl Pipe {
         requires ping { is_ping_by kind flags ≡ false }
         requires small { length payload.now ≤ 16384 }
         requires stream { stream < 2147483648 }
+        ensures number { self.new.number ≡ self.old.number }
         ensures waits { length self.new.out ≤ length self.old.out + 9 + length payload.now }
         ensures rest { self.new.rest ≡ self.old.rest }
         ensures unread { unread self.new ≡ unread self.old }
@@ -228,11 +301,13 @@ impl Pipe {
     /// Writes the first of the core's bytes as data, as far as both windows and the greatest frame allow. Returns how
     /// many. There are none behind the last.
     pub fn say(&mut self, alloc: Global, bytes: &[u8]) -> Result<usize, AllocError>
+        requires open { IsStream self.old.number }
+        ensures number { self.new.number ≡ self.old.number }
         ensures waits { length self.new.out ≤ length self.old.out + 16393 }
         ensures count { IfOk result (λ n. n ≤ length bytes.now) }
         ensures most { IfOk result (λ n. n ≡ (if self.old.finished then 0
             else min (min (length bytes.now) 16384) (allowed (line self.old)))) }
-        ensures law { IfOk result (λ n. (steps : List Step) × AreOwn steps
+        ensures law { IfOk result (λ n. (steps : List Step) × AreMoves self.old.number steps
             × Gives steps (take n bytes.now) (line self.old) (line self.new)) }
         ensures fault { OnErr result (Adds [] (line self.old) (line self.new)) }
     {
@@ -244,7 +319,7 @@ impl Pipe {
             return Ok(0);
         }
         let used = self.used + count as u64;
-        let frame = written(alloc, DATA, 0, 1, &bytes[..count])?;
+        let frame = written(alloc, DATA, 0, self.number, &bytes[..count])?;
         self.out.push(&frame.bytes)?;
         self.used = used;
         Ok(count)
@@ -252,16 +327,18 @@ impl Pipe {
 
     /// Says that no more data come, unless that was said.
     pub fn finish(&mut self, alloc: Global) -> Result<(), AllocError>
+        requires open { IsStream self.old.number }
+        ensures number { self.new.number ≡ self.old.number }
         ensures waits { length self.new.out ≤ length self.old.out + 9 }
         ensures finished { OnOk result (self.new.finished ≡ true) }
         ensures unread { unread self.new ≡ unread self.old }
-        ensures law { (steps : List Step) × AreOwn steps × Adds steps (line self.old) (line self.new) }
+        ensures law { (steps : List Step) × AreMoves self.old.number steps × Adds steps (line self.old) (line self.new) }
         ensures fault { OnErr result (self.new ≡ self.old) }
     {
         if self.finished {
             return Ok(());
         }
-        let frame = written(alloc, DATA, 1, 1, &[])?;
+        let frame = written(alloc, DATA, 1, self.number, &[])?;
         self.out.push(&frame.bytes)?;
         self.finished = true;
         Ok(())
@@ -269,10 +346,11 @@ impl Pipe {
 
     /// Writes a ping with this mark.
     pub fn ping(&mut self, alloc: Global, mark: u64) -> Result<(), AllocError>
+        ensures number { self.new.number ≡ self.old.number }
         ensures waits { length self.new.out ≤ length self.old.out + 17 }
         ensures ping { OnOk result (self.new.waits ≡ Some mark) }
         ensures unread { unread self.new ≡ unread self.old }
-        ensures law { (steps : List Step) × AreOwn steps × Adds steps (line self.old) (line self.new) }
+        ensures law { (steps : List Step) × AreMoves self.old.number steps × Adds steps (line self.old) (line self.new) }
         ensures fault { OnErr result (self.new ≡ self.old) }
     {
         let [a, b, c, d] = octets((mark / 4_294_967_296) as u32);
@@ -292,26 +370,56 @@ impl Pipe {
 
     /// Gives windows back, once at least this much may be given: as much to the stream as to the connection.
     pub fn give_back(&mut self, alloc: Global, least: usize) -> Result<(), AllocError>
-        requires { 0 < least }
+        requires least { 0 < least }
+        requires open { IsStream self.old.number }
+        ensures number { self.new.number ≡ self.old.number }
         ensures waits { length self.new.out ≤ length self.old.out + 26 }
         ensures longer { length self.old.out ≤ length self.new.out }
         ensures rest { self.new.rest ≡ self.old.rest }
         ensures owed { OnOk result (self.new.owed < least) }
-        ensures law { (steps : List Step) × AreOwn steps × Adds steps (line self.old) (line self.new) }
+        ensures law { (steps : List Step) × AreMoves self.old.number steps × Adds steps (line self.old) (line self.new) }
         ensures fault { OnErr result (self.new ≡ self.old) }
     {
+        if self.owed == 0 {
+            return self.give_back_others(alloc, least);
+        }
         let owed = self.owed;
-        if owed == 0 || owed < least {
+        let all = owed + self.others;
+        if all < least {
             return Ok(());
         }
-        let payload = octets(owed as u32);
-        let connection = written(alloc, UPDATE, 0, 0, &payload)?;
-        let stream = written(alloc, UPDATE, 0, 1, &payload)?;
+        let wide = octets(all as u32);
+        let narrow = octets(owed as u32);
+        let connection = written(alloc, UPDATE, 0, 0, &wide)?;
+        let stream = written(alloc, UPDATE, 0, self.number, &narrow)?;
         let mut both = Vec::from_slice(alloc, &connection.bytes)?;
         both.extend_from_slice(&stream.bytes)?;
         self.out.push(&both)?;
         self.credit += owed;
         self.owed = 0;
+        self.others = 0;
+        Ok(())
+    }
+
+    // Gives back to the connection what came on other streams, if that is at least this much.
+    fn give_back_others(&mut self, alloc: Global, least: usize) -> Result<(), AllocError>
+        requires least { 0 < least }
+        requires open { IsStream self.old.number }
+        ensures number { self.new.number ≡ self.old.number }
+        ensures waits { length self.new.out ≤ length self.old.out + 13 }
+        ensures longer { length self.old.out ≤ length self.new.out }
+        ensures rest { self.new.rest ≡ self.old.rest }
+        ensures owed { self.new.owed ≡ self.old.owed }
+        ensures law { (steps : List Step) × AreMoves self.old.number steps × Adds steps (line self.old) (line self.new) }
+        ensures fault { OnErr result (self.new ≡ self.old) }
+    {
+        if self.others < least {
+            return Ok(());
+        }
+        let payload = octets(self.others as u32);
+        let connection = written(alloc, UPDATE, 0, 0, &payload)?;
+        self.out.push(&connection.bytes)?;
+        self.others = 0;
         Ok(())
     }
 }

@@ -15,7 +15,7 @@ use std::alloc::{AllocError, Global};
 pub const PENDING: usize = 65_536;
 
 /// The most bytes that wait for the peer before it is told why the call ends: those, and one frame more.
-const MOST_WAITING: usize = 81_929;
+pub(crate) const MOST_WAITING: usize = 81_929;
 
 /// A client with one call.
 #[derive(Debug, Drop)]
@@ -23,6 +23,7 @@ pub struct Tunnel {
     pipe: Pipe,
     control: Control,
     end: Option<End>,
+    ghost one: { pipe.number ≡ 1 },
     ghost waits: { length pipe.out ≤ 81955 },
     ghost alive: { end ≡ None → control.decoder.alive ≡ true },
 }

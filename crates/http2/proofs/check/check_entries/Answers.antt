@@ -7,4 +7,4 @@ entries-preserved c =
     let bytes : List ℕ = c.entries.rest.now in
     let long : 6 ≤ length bytes = search rules in
     let fine = sym (rw c.word.ensures at c.in_ok-check_setting.ensures) in
-    rw c.behind-rest.ensures (sym (entries_step bytes long fine) ∙ c.entries.invariant)
+    rw c.behind-rest.ensures (sym (entries_step c.args.pushes bytes long fine) ∙ c.entries.invariant)

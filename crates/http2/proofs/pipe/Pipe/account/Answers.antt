@@ -1,6 +1,6 @@
 use Rattle.std.proofs.Common.{◌≡◌, ◌≤◌, ◌+◌, ◌-◌, List, ℕ, ap, ap₂, refl, rules, arith, ◌∙◌, ◌++◌, length, take, sym}
 use Rattle.std.proofs.lemmas.List.{take-append-drop}
-use Rattle.http2.specs.Frame.{IsFrame, flow_of}
+use Rattle.http2.specs.Frame.{IsFrame, flow_of, flow_on}
 use Rattle.http2.specs.Lines.{line}
 use Rattle.http2.proofs.Keeping.{law_got}
 use Rattle.http2.proofs.pipe.Pipe.account.Goals as goal
@@ -15,10 +15,16 @@ returns-clause-law c =
     let first : frame ≡ take n rest = rw long c.requires.first in
     let whole : rest ≡ frame ++ c.skip.new.self =
     sym (take-append-drop n rest) ∙ ap₂ (λ (a b : List ℕ). a ++ b) (sym first) (sym c.skip.ensures) in
-    let enough : c.flow-count.result ≤ c.args.self.now.credit = search rules in
-    let credit : (c.args.self.now.credit - c.flow-count.result) + flow_of frame ≡ c.args.self.now.credit =
-    omega (arith, enough, c.flow-count.ensures) in
+    let old = c.args.self.now in
+    let count : ℕ = c.flow-count.result in
+    let on : ℕ = c.flow_on-on_stream.result in
+    let enough : count + old.others ≤ old.credit = search rules in
+    let few : on ≤ count = omega (arith, c.flow_on-on_stream.ensures.few, c.flow-count.ensures) in
+    let stream : (old.credit - on) + flow_on old.number frame ≡ old.credit =
+    omega (arith, enough, few, c.flow_on-on_stream.ensures.found) in
+    let connection : ((old.credit - on) - (old.others + (count - on))) + flow_of frame ≡ old.credit - old.others =
+    omega (arith, enough, few, c.flow-count.ensures) in
     λ trail came sent took gave law.
-    law_got trail came sent took gave (line c.args.self.now) _ frame is whole
+    law_got trail came sent took gave (line c.args.self.now) _ frame is refl whole
     (c.in_ok-push.ensures.found ∙ ap (λ (t : List ℕ). c.args.self.now.data_in ++ t) c.data-data.ensures.found)
-    refl c.after-window.ensures c.in-Some.ensures.raised c.in-Some-raise.ensures.raised refl credit credit refl c.ponged-self.ensures law
+    refl c.after-window.ensures c.in-Some.ensures.raised c.in-Some-raise.ensures.raised refl stream connection refl c.ponged-self.ensures law

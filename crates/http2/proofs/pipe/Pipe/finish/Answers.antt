@@ -1,6 +1,6 @@
 use Rattle.std.proofs.Common.{◌≡◌, ◌+◌, true, false, List, ℕ, [], ◌∷◌, refl, ap₂, arith, rules}
 use Rattle.http2.specs.Frame.{flow_of}
-use Rattle.http2.specs.Trail.{Line, put, own_data}
+use Rattle.http2.specs.Trail.{Line, put, move_data}
 use Rattle.http2.specs.Lines.{line}
 use Rattle.http2.proofs.Frames.{plain_flow}
 use Rattle.http2.proofs.Keeping.{law_silent}
@@ -17,7 +17,7 @@ returns-clause-law c =
     let out = rw c.deref.ensures.value at c.in_ok-push.ensures.found in
     let going : old.finished ≡ false = search rules in (
       put frame ∷ [],
-      (own_data is.kind is.stream, tt),
+      (move_data is.kind is.stream, tt),
       λ trail came sent took gave law.
           law_silent trail came sent took gave old _ frame
           (data_puts frame [] 1 old _ (record { whole = c.in_ok-frame.frame.whole; small = c.in_ok-frame.frame.small })

@@ -1,5 +1,5 @@
 use Rattle.std.proofs.Common.{Some, List, ℕ, [], ◌∷◌, ap, arith}
-use Rattle.http2.specs.Trail.{Line, put, own_ping}
+use Rattle.http2.specs.Trail.{Line, put, move_ping}
 use Rattle.http2.specs.Lines.{line}
 use Rattle.http2.proofs.Keeping.{law_silent}
 use Rattle.http2.proofs.Putting.{ping_puts}
@@ -12,7 +12,7 @@ returns-clause-law c =
     let is = c.in_ok-frame.ensures in
     let out = rw c.deref.ensures.value at c.in_ok-push.ensures.found in (
       put frame ∷ [],
-      (own_ping is.kind is.flags is.stream, tt),
+      (move_ping is.kind is.flags is.stream, tt),
       λ trail came sent took gave law.
           law_silent trail came sent took gave old _ frame
           (ping_puts frame _ c.args.mark old _ (record { whole = c.in_ok-frame.frame.whole; small = c.in_ok-frame.frame.small })

@@ -1,6 +1,6 @@
 use Rattle.std.proofs.Common.{◌≡◌, ◌≤◌, ◌<◌, ◌+◌, false, List, [], ◌∷◌, ℕ, ap, ap₂, refl, sym, ◌∙◌, length, take, arith, rules}
 use Rattle.http2.specs.Frame.{IsFrame, flow_of}
-use Rattle.http2.specs.Trail.{Line, put, own_data}
+use Rattle.http2.specs.Trail.{Line, put, move_data}
 use Rattle.http2.specs.Lines.{line}
 use Rattle.http2.proofs.Frames.{plain_flow}
 use Rattle.http2.proofs.Keeping.{law_put, law_same}
@@ -25,7 +25,7 @@ returns-clause-law c =
     let out = rw c.deref.ensures.value at c.in_ok-push.ensures.found in
     let going : old.finished ≡ false = search rules in (
       put frame ∷ [],
-      (own_data is.kind is.stream, tt),
+      (move_data is.kind is.stream, tt),
       λ trail came sent took gave law.
           law_put trail came sent took gave old _ frame part
           (data_puts frame part 0 old _ whole is.kind is.stream is.flags is.payload refl going (λ _. (stream, connection))

@@ -1,7 +1,7 @@
 use Rattle.std.proofs.Common.{◌++◌}
 use Rattle.http2.specs.Lines.{unread}
 use Rattle.http2.specs.Controls.{control_view}
-use Rattle.http2.proofs.Calls.{quiet_after}
+use Rattle.http2.proofs.Calls.{quiet_after, own_of}
 use Rattle.http2.proofs.tunnel.Tunnel.ping.Goals as goal
 
 pub returns-in_err-ping-clause-keeps : goal.returns-in_err-ping-clause-keeps
@@ -12,7 +12,7 @@ returns-in_err-ping-clause-keeps c =
       trail = written.0 ++ law.trail;
       law = written.2 law.trail came sent took gave law.law;
       is_after = rw c.in_err-ping.ensures.unread
-          (quiet_after first written.0 law.trail (control_view old.control) old.end (unread old.pipe) written.1 law.is_after);
+          (quiet_after first written.0 law.trail (control_view old.control) old.end (unread old.pipe) (own_of old.pipe.number written.0 old.one written.1) law.is_after);
     }
 
 pub returns-clause-keeps : goal.returns-clause-keeps
@@ -23,5 +23,5 @@ returns-clause-keeps c =
       trail = written.0 ++ law.trail;
       law = written.2 law.trail came sent took gave law.law;
       is_after = rw c.in_ok-ping.ensures.unread
-          (quiet_after first written.0 law.trail (control_view old.control) old.end (unread old.pipe) written.1 law.is_after);
+          (quiet_after first written.0 law.trail (control_view old.control) old.end (unread old.pipe) (own_of old.pipe.number written.0 old.one written.1) law.is_after);
     }

@@ -1,7 +1,7 @@
-use Rattle.std.proofs.Common.{◌≡◌, None, ◌++◌, take}
+use Rattle.std.proofs.Common.{◌∙◌, ◌≡◌, None, ◌++◌, take}
 use Rattle.http2.specs.Lines.{unread}
 use Rattle.http2.specs.Controls.{control_view}
-use Rattle.http2.proofs.Calls.{none_of, quiet_after, going_after}
+use Rattle.http2.proofs.Calls.{none_of, quiet_after, going_after, own_of}
 use Rattle.http2.proofs.tunnel.Tunnel.take.Goals as goal
 
 pub returns-then-is_some : goal.returns-then-is_some
@@ -28,5 +28,5 @@ returns c = λ first came sent took gave law.
       law = written.2 law.trail came sent (took ++ take c.args.count old.pipe.data_in) gave
           (c.take.ensures.law law.trail came sent took gave law.law);
       is_after = going_after first (written.0 ++ law.trail) (control_view old.control) old.end (unread old.pipe) _ none
-          (quiet_after first written.0 law.trail (control_view old.control) old.end (unread old.pipe) written.1 law.is_after);
+          (quiet_after first written.0 law.trail (control_view old.control) old.end (unread old.pipe) (own_of c.take.new.self.number written.0 (c.take.ensures.number ∙ old.one) written.1) law.is_after);
     }
