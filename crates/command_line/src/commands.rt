@@ -14,6 +14,12 @@ use std::alloc::{AllocError, Global};
 /// The program's version, and the kit that proves it.
 const VERSION: &str = "0.1.0, proved with rattle logic dac8208d650f15bf";
 
+/// The file of the settings of a server.
+const SETTINGS_FILE: &str = "The settings of a server: one JSON object";
+
+/// The file of a configuration.
+const CONFIGURATION_FILE: &str = "A configuration: one JSON object with node, cluster and filters";
+
 /// The program's command, with a subcommand for each job.
 pub(crate) fn command<'a>(alloc: Global) -> Result<Command<'a>, AllocError>
     ensures { IfOk result (λ c. app_of c ≡ rbacd_app) }
@@ -150,7 +156,7 @@ fn check_config_command<'a>(alloc: Global) -> Result<Command<'a>, AllocError>
     Command::new(alloc, "check-config")
         .about("Tells what a configuration means, or what is wrong with it")
         .after_help(CHECK_CONFIG_HELP)
-        .arg(config_arg(alloc))
+        .arg(config_arg(alloc, CONFIGURATION_FILE))
 }
 
 fn replay_command<'a>(alloc: Global) -> Result<Command<'a>, AllocError>
@@ -160,7 +166,7 @@ fn replay_command<'a>(alloc: Global) -> Result<Command<'a>, AllocError>
     Command::new(alloc, "replay")
         .about("Runs the core of the proxy on the events on standard input")
         .after_help(REPLAY_HELP)
-        .arg(config_arg(alloc))?
+        .arg(config_arg(alloc, CONFIGURATION_FILE))?
         .arg(connection_arg(alloc))
 }
 
@@ -182,7 +188,7 @@ fn serve_command<'a>(alloc: Global) -> Result<Command<'a>, AllocError>
     Command::new(alloc, "serve")
         .about("Serves connections, by the filters of a control plane, until it is to end")
         .after_help(SERVE_HELP)
-        .arg(config_arg(alloc))?
+        .arg(config_arg(alloc, SETTINGS_FILE))?
         .arg(check_arg(alloc))
 }
 
@@ -196,7 +202,7 @@ fn check_arg<'a>(alloc: Global) -> Arg<'a>
         .help("Print what the settings mean, and serve nothing")
 }
 
-fn config_arg<'a>(alloc: Global) -> Arg<'a>
+fn config_arg<'a>(alloc: Global, help: &'a str) -> Arg<'a>
     ensures rule { rule_of result ≡ config_rule }
     ensures local { result.global ≡ false }
 {
@@ -204,7 +210,7 @@ fn config_arg<'a>(alloc: Global) -> Arg<'a>
         .long("config")
         .value_name("FILE")
         .required(true)
-        .help("One JSON object: for serve the settings of a server, otherwise a configuration")
+        .help(help)
 }
 
 pub(crate) fn control_command<'a>(alloc: Global) -> Result<Command<'a>, AllocError>
@@ -228,7 +234,7 @@ fn proxy_command<'a>(alloc: Global) -> Result<Command<'a>, AllocError>
     Command::new(alloc, "proxy")
         .about("Judges the requests of connections, by the filters of a control plane")
         .after_help(PROXY_HELP)
-        .arg(config_arg(alloc))?
+        .arg(config_arg(alloc, CONFIGURATION_FILE))?
         .arg(control_arg(alloc))?
         .arg(listen_arg(alloc))?
         .arg(rounds_arg(alloc))?

@@ -119,7 +119,11 @@ The status is 0 at the end of the input, 6 for a bad configuration or line, 5 if
 
 /// The end of the help of `control`.
 pub(crate) const CONTROL_HELP: &str =
-    "With --name, each snapshot has one file for each name, in the order of the names. The number of files must be a
+    "It takes files of filters with their names, or files of responses:
+  rbacd control --listen ADDR --name F [--name F].. FILE..
+  rbacd control --listen ADDR --response FILE [--response FILE]..
+
+With --name, each snapshot has one file for each name, in the order of the names. The number of files must be a
 multiple of the number of names. With --response, each response is a snapshot, with the filters that it names;
 --name and other files cannot be given then.
 
