@@ -106,7 +106,7 @@ def bad_settings(case):
             lines = errors.decode().split("\n")
             case.same(f"{change} {words}", (status, out, lines[0], len(lines)), (6, b"", "bad config", 3))
             case.holds(f"{change}: {name} is named", lines[1].startswith(f"  {name}: "), lines)
-    for content, word in (("[]", "configuration"), ("", "JSON"), ('{"proxy":', "JSON"), ("\u1b1b", "JSON")):
+    for content, word in (("[]", "configuration"), ("", "the file is empty"), ('{"proxy":', "JSON"), ("\u1b1b", "JSON")):
         case.config("bad", content)
         status, out, errors = case.run("serve", "--config", "bad")
         lines = errors.decode().split("\n")
