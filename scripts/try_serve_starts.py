@@ -15,7 +15,7 @@ LEAST = {"proxy": PROXY, "listen": "127.0.0.1:18080", "control": "127.0.0.1:1800
 
 # settings that are mistaken, and the member that is named
 BAD = [
-    ({"proxy": None}, "proxy"), ({"proxy": {}}, "proxy"), ({"proxy": {**PROXY, "filters": []}}, "proxy"),
+    ({"proxy": None}, "proxy"), ({"proxy": {**PROXY, "node": 1}}, "proxy"), ({"proxy": {**PROXY, "filters": []}}, "proxy"),
     ({"proxy": {**PROXY, "limits": {"text": 1025}}}, "proxy"), ({"listen": None}, "listen"), ({"listen": []}, "listen"),
     ({"listen": "localhost"}, "listen"), ({"listen": "localhost:80"}, "listen"), ({"listen": 80}, "listen"),
     ({"listen": ["127.0.0.1:1", "127.0.0.1"]}, "listen[1]"), ({"listen": ["127.0.0.1:1"] * 17}, "listen"),
@@ -53,6 +53,35 @@ BAD = [
     ({"require": ["x-a", "X-B"]}, "require[1]"), ({"require": ["x-a", "x-a"]}, "require[1]"),
     ({"map": {"host": "x-a"}, "require": ["x-a"]}, "require[0]"), ({"paths": "Strict"}, "paths"), ({"paths": True}, "paths"),
     ({"path": "strict"}, "path")]
+
+NAMES = "proxy, facts, listen, control, grpc, admin, connections, pending, timeouts, backoff, nack_pause, access_log, update_log, " \
+        "record, until_eof, map, require, paths"
+NO_HOSTS = "; names of hosts are not taken"
+# settings with several mistakes, and all lines below `bad config`: the first mistake of each member, in the order of the members
+SEVERAL = [
+    ({"proxy": {}}, ["proxy: node is missing or not a text", "proxy: cluster is missing or not a text",
+                     "proxy: filters is missing or not an array"]),
+    ({"lisen": "127.0.0.1:1", "listen": None, "until_eof": 1}, [
+        f'lisen: there is no member "lisen"; the members are {NAMES}', "listen: is missing", "until_eof: is not true or false"]),
+    ({"control": "localhost:80", "grpc": {"method": "delta"}, "admin": "localhost:1", "connections": 0,
+      "timeouts": {"head": 0, "idle": 0}, "facts": {"x": 1},
+      "proxy": {"node": "n", "cluster": 1, "filters": [{"name": ""}, {"name": "f", "budget": 0}]}}, [
+        'control: is not a text such as "127.0.0.1:8080", "unix:PATH", "file:PATH", "grpc://127.0.0.1:8080" or "grpc+unix:PATH"' + NO_HOSTS,
+        'grpc.method: is neither "ads" nor "ecds"',
+        'admin: is not null, a port number from 0 to 65535, or a text such as "127.0.0.1:8080" or "[::1]:8080"' + NO_HOSTS,
+        "connections: is not a whole number from 1 to 100000", "timeouts.head: is not a whole number from 1 to 86400000",
+        "proxy: cluster is missing or not a text", "proxy: filter 0: its name is not a text of 1 to 256 bytes",
+        "proxy: filter 1: its budget is not a whole number from 1 to 100000000", 'facts: there is no fact "x"']),
+    ({"proxy": None, "grpc": {}, "map": {"host": "x-a", "verb": "x-b"}, "require": ["X"], "paths": 1}, [
+        "proxy: is missing", 'grpc: is only for a control plane "grpc://IP:PORT" or "grpc+unix:PATH"',
+        'map.verb: there is no member "verb"; the members are method, target, host, scheme, remote_ip, direct_remote_ip, source.port, '
+        "mtls, requested_server_name, subject_peer_certificate, dns_san_peer_certificate, uri_san_peer_certificate",
+        'require[0]: is not the name of a field in lower case, such as "x-forwarded-uri"', 'paths: is neither "strict" nor "as_sent"']),
+    ({"map": {"host": "x-a"}, "require": ["x-a"], "pending": 0}, [
+        "pending: is not a whole number from 1 to 16777216", "require[0]: names a field that is named before"]),
+    ({"a.b": 1, "a[0]": 1, "backoff": {"first": 2, "greatest": 1}}, [
+        f'a.b: there is no member "a.b"; the members are {NAMES}', f'a[0]: there is no member "a[0]"; the members are {NAMES}',
+        "backoff.first: is 2, which is above backoff.greatest, 1"])]
 
 
 def check(case):
@@ -115,6 +144,18 @@ def bad_settings(case):
     case.same("no file", (status, out, errors), (2, b"", b"cannot read none\n  No such file or directory (os error 2)\n"))
     case.same("no words", case.run("serve")[0], 2)
     case.same("an unknown word", case.run("serve", "--config", "bad", "--checks")[0], 2)
+
+
+def several_mistakes(case):
+    """All mistakes of a file are told at once: the first of each member, and at most 16."""
+    for change, lines in SEVERAL:
+        case.config("bad", {key: it for key, it in {**LEAST, **change}.items() if it is not None})
+        for words in ((), ("--check",)):
+            wanted = "".join(f"  {line}\n" for line in lines)
+            case.same(f"{change} {words}", case.run("serve", "--config", "bad", *words), (6, b"", f"bad config\n{wanted}".encode()))
+    case.config("bad", {**LEAST, **{f"x{number:02}": 1 for number in range(20)}, "until_eof": 1})
+    wanted = "".join(f'  x{number:02}: there is no member "x{number:02}"; the members are {NAMES}\n' for number in range(16))
+    case.same("20 unknown members", case.run("serve", "--config", "bad"), (6, b"", f"bad config\n{wanted}".encode()))
 
 
 def strange_records(case):
@@ -328,5 +369,5 @@ def handed_socket(case):
             case.same("an answer", heard(peer, 100), allowed(b"0", 1))
 
 
-CASES = {it.__name__: it for it in (check, examples, bad_settings, strange_records, addresses, unix_paths, facts, mapped_facts,
-                                    known_facts, until_eof, handed_socket, no_streams)}
+CASES = {it.__name__: it for it in (check, examples, bad_settings, several_mistakes, strange_records, addresses, unix_paths, facts,
+                                    mapped_facts, known_facts, until_eof, handed_socket, no_streams)}

@@ -14,6 +14,7 @@ mod reports;
 mod serve;
 mod server_settings;
 mod settings;
+mod settings_faults;
 mod snapshots;
 mod sockets;
 

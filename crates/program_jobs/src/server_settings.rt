@@ -1,10 +1,11 @@
 //! The settings of a server, and their texts. No contract describes the texts.
 
 use crate::paths::clash_of;
+use crate::settings_faults::all_causes;
 use ads::Config;
 use attributes::{Conn, Limit};
-use program_texts::{FactsFault, cause_of_bad_value, conn_of};
-use proxy_replay::{ConfigTextFault, cause_of_bad_settings, config_at, config_text};
+use program_texts::{FactsFault, conn_of};
+use proxy_replay::{ConfigTextFault, config_at, config_text};
 use serde_json::Value;
 use serve_config::{Address, ServeConfig, ServeConfigFault, meaning, read_serve_config};
 use serve_log::facts_value;
@@ -59,16 +60,10 @@ pub fn read_server_settings(
             )?));
         }
     };
-    let settings = match read_serve_config(alloc, &value) {
-        Ok(settings) => settings,
-        Err(fault) => return Err(bad_member(alloc, fault)?),
-    };
-    let config = proxy_in(alloc, &value)?;
-    let conn = facts_in(alloc, &value)?;
-    let server_settings = ServerSettings {
-        config,
-        conn,
-        settings,
+    let server_settings = match parts_of(alloc, &value) {
+        Ok(server_settings) => server_settings,
+        Err(PartFault::Memory) => return Err(ServerSettingsFault::Memory),
+        Err(PartFault::Bad) => return Err(ServerSettingsFault::Bad(all_causes(alloc, value)?)),
     };
     match conflict_of(&server_settings).or(clash_of(&server_settings.settings, path)) {
         Some(cause) => Err(ServerSettingsFault::Bad(String::from_str(alloc, cause)?)),
@@ -90,41 +85,48 @@ fn conflict_of(server_settings: &ServerSettings) -> Option<&'static str> {
     None
 }
 
-// The configuration of the proxy.
-fn proxy_in(alloc: Global, value: &Value) -> Result<Config, ServerSettingsFault> {
-    let proxy = value.get("proxy").unwrap_or(&Value::Null);
-    match config_at(alloc, proxy) {
-        Ok(config) => Ok(config),
-        Err(ConfigTextFault::Memory) => Err(ServerSettingsFault::Memory),
-        Err(ConfigTextFault::Bad) => {
-            let cause = cause_of_bad_settings(alloc, proxy)?;
-            Err(ServerSettingsFault::Bad(format!(in alloc; "proxy: {cause}")?))
-        }
+// Why a value has no settings.
+enum PartFault {
+    Bad,
+    Memory,
+}
+
+impl From<AllocError> for PartFault {
+    fn from(_refused: AllocError) -> PartFault {
+        PartFault::Memory
     }
 }
 
+// All settings, each by itself allowed.
+fn parts_of(alloc: Global, value: &Value) -> Result<ServerSettings, PartFault> {
+    let settings = match read_serve_config(alloc, value) {
+        Ok(settings) => settings,
+        Err(ServeConfigFault::Memory) => return Err(PartFault::Memory),
+        Err(ServeConfigFault::Member { .. }) => return Err(PartFault::Bad),
+    };
+    let proxy = value.get("proxy").unwrap_or(&Value::Null);
+    let config = match config_at(alloc, proxy) {
+        Ok(config) => config,
+        Err(ConfigTextFault::Memory) => return Err(PartFault::Memory),
+        Err(ConfigTextFault::Bad) => return Err(PartFault::Bad),
+    };
+    let conn = facts_in(alloc, value)?;
+    Ok(ServerSettings {
+        config,
+        conn,
+        settings,
+    })
+}
+
 // The facts of all connections.
-fn facts_in(alloc: Global, value: &Value) -> Result<Conn, ServerSettingsFault> {
+fn facts_in(alloc: Global, value: &Value) -> Result<Conn, PartFault> {
     let Some(facts) = value.get("facts") else {
         return Ok(Conn::of_scheme(ArcStr::from_str(alloc, "http")?));
     };
     match conn_of(alloc, facts) {
         Ok(conn) => Ok(conn),
-        Err(FactsFault::Memory) => Err(ServerSettingsFault::Memory),
-        Err(FactsFault::Bad) => Err(ServerSettingsFault::Bad(
-            match cause_of_bad_value(alloc, facts)? {
-                Some(cause) => format!(in alloc; "facts: {cause}")?,
-                None => String::from_str(alloc, "facts: a text is longer than the limit")?,
-            },
-        )),
-    }
-}
-
-// The fault of a member.
-fn bad_member(alloc: Global, fault: ServeConfigFault) -> Result<ServerSettingsFault, AllocError> {
-    match fault {
-        ServeConfigFault::Memory => Ok(ServerSettingsFault::Memory),
-        fault => Ok(ServerSettingsFault::Bad(format!(in alloc; "{fault}")?)),
+        Err(FactsFault::Memory) => Err(PartFault::Memory),
+        Err(FactsFault::Bad) => Err(PartFault::Bad),
     }
 }
 

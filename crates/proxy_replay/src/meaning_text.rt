@@ -7,6 +7,9 @@ use program_texts::{InvalidValue, is_among, items_at, number_or, str_at};
 use serde_json::Value;
 use std::alloc::{AllocError, Global};
 
+/// How many causes are told, at most.
+const MOST_CAUSES: usize = 16;
+
 /// The meaning of a configuration, in lines for its author.
 pub fn config_text(alloc: Global, config: &Config) -> Result<String, AllocError> {
     let (node, cluster) = (config.node(), config.cluster());
@@ -54,27 +57,63 @@ pub fn cause_of_bad_config(alloc: Global, text: &[u8]) -> Result<String, AllocEr
             "these are the settings of a server, which `rbacd serve --check` reads; a configuration is the value of their member \"proxy\"",
         );
     }
-    cause_of_bad_settings(alloc, &value)
+    let causes = causes_of_bad_settings(alloc, &value)?;
+    causes_text(alloc, &causes)
 }
 
-/// Why a JSON value is no configuration, in words for its author.
-pub fn cause_of_bad_settings(alloc: Global, value: &Value) -> Result<String, AllocError> {
-    if let Some(cause) = cause_of_names(alloc, value, &CONFIG_NAMES)? {
-        return Ok(cause);
+/// The first of these causes, one on a line. The lines after the first are indented, as below `bad config`.
+pub fn causes_text(alloc: Global, causes: &[String]) -> Result<String, AllocError> {
+    let mut text = String::new(alloc);
+    let mut mark = "";
+    for (number, cause) in causes.iter().enumerate() {
+        if number == MOST_CAUSES {
+            break;
+        }
+        text.push_str(mark)?;
+        text.push_str(cause.as_str())?;
+        mark = "\n  ";
+    }
+    Ok(text)
+}
+
+/// Why a JSON value is no configuration, in words for its author: the first fault of its names, of each member and of
+/// each filter.
+pub fn causes_of_bad_settings(alloc: Global, value: &Value) -> Result<Vec<String>, AllocError> {
+    let mut causes = Vec::new(alloc);
+    note(&mut causes, cause_of_names(alloc, value, &CONFIG_NAMES)?)?;
+    if !value.is_object() {
+        return Ok(causes);
     }
     for name in ["node", "cluster"] {
-        match str_at(value, name) {
-            Ok(text) if text.len() <= 256 => {}
-            Ok(_) => return format!(in alloc; "{name} has more than 256 bytes"),
-            Err(InvalidValue) => return format!(in alloc; "{name} is missing or not a text"),
+        note(&mut causes, cause_of_text(alloc, value, name)?)?;
+    }
+    note(&mut causes, cause_of_limits(alloc, value)?)?;
+    match items_at(value, "filters") {
+        Ok(items) => note_filters(alloc, &mut causes, items)?,
+        Err(InvalidValue) => {
+            causes.push(String::from_str(alloc, "filters is missing or not an array")?)?;
         }
     }
-    if let Some(cause) = cause_of_limits(alloc, value)? {
-        return Ok(cause);
+    if causes.is_empty() {
+        causes.push(String::from_str(alloc, "two filters have the same name")?)?;
     }
-    match items_at(value, "filters") {
-        Ok(items) => cause_of_filters(alloc, items),
-        Err(InvalidValue) => String::from_str(alloc, "filters is missing or not an array"),
+    Ok(causes)
+}
+
+/// Adds a cause, if there is one.
+fn note(causes: &mut Vec<String>, cause: Option<String>) -> Result<(), AllocError> {
+    if let Some(cause) = cause {
+        causes.push(cause)?;
+    }
+    Ok(())
+}
+
+/// The fault of the node or the cluster, if it has one.
+fn cause_of_text(alloc: Global, value: &Value, name: &str) -> Result<Option<String>, AllocError> {
+    match str_at(value, name) {
+        Ok(text) if text.len() <= 256 => Ok(None),
+        Ok(_) => Ok(Some(format!(in alloc; "{name} has more than 256 bytes")?)),
+        Err(InvalidValue) => Ok(Some(format!(in alloc; "{name} is missing or not a text")?)),
     }
 }
 
@@ -125,18 +164,23 @@ fn cause_of_limits(alloc: Global, value: &Value) -> Result<Option<String>, Alloc
     Ok(None)
 }
 
-/// The fault of these filters.
-fn cause_of_filters(alloc: Global, items: &[Value]) -> Result<String, AllocError> {
+/// Adds the fault of the number of filters, or the first fault of each filter.
+fn note_filters(
+    alloc: Global,
+    causes: &mut Vec<String>,
+    items: &[Value],
+) -> Result<(), AllocError> {
     let count = items.len();
     if count == 0 || count > 8 {
-        return format!(in alloc; "there are {count} filters; there may be 1 to 8");
+        causes.push(format!(in alloc; "there are {count} filters; there may be 1 to 8")?)?;
+        return Ok(());
     }
     for (number, item) in items.iter().enumerate() {
         if let Some(cause) = cause_of_filter(alloc, item)? {
-            return format!(in alloc; "filter {number}: {cause}");
+            causes.push(format!(in alloc; "filter {number}: {cause}")?)?;
         }
     }
-    String::from_str(alloc, "two filters have the same name")
+    Ok(())
 }
 
 /// The fault of this filter, if it has one.
