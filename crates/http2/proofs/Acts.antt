@@ -1,11 +1,11 @@
 -- A frame with which a call that is served goes on, and its answer.
-use Rattle.std.proofs.Common.{◌≡◌, ◌≢◌, ◌<◌, ◌⊎◌, ℕ, ◌%◌, ◌==◌, nat_lt, Bool, true, false, if◌then◌else◌, Option, Some, None, List, [], ◌∷◌, ◌++◌, refl, sym, ap, ap₂, ◌∙◌, inl, inr, true≢false, subst, arith, append_assoc, append-nil}
-use Rattle.std.proofs.lemmas.Bool.{ne_eqb, eq-eqb, lt-ltb}
+use Rattle.std.proofs.Common.{◌≡◌, ℕ, ◌==◌, nat_lt, Bool, true, false, if◌then◌else◌, Some, None, List, [], ◌∷◌, ◌++◌, refl, sym, ap, ap₂, ◌∙◌, inl, inr, true≢false, subst, arith, append_assoc, append-nil}
+use Rattle.std.proofs.lemmas.Bool.{eq-eqb, lt-ltb}
 use Rattle.http2.specs.Frame.{Parts, parts_of, kind_of, stream_of, is_acknowledgement, unopened, IsStream}
-use Rattle.http2.specs.Trail.{Step, got, put, is_reply, IsMove, move_data, move_window, move_ping, greeted, IsQuiet, AreQuiet, Unread}
+use Rattle.http2.specs.Trail.{Step, got, put, is_reply, move_data, move_window, move_ping, greeted, IsQuiet, AreQuiet, Unread}
 use Rattle.http2.specs.Call.{AreReplies}
-use Rattle.http2.specs.Serving.{ServingValue, Turn, on, over, Remains, remains_of, Takes}
-use Rattle.http2.specs.Served.{answers_to, Serves, is_answer, answered, AreAnswers, IsSaid, answer, fields, away, move, AreSaid, Stops, by_frame, by_memory, IsServed}
+use Rattle.http2.specs.Serving.{ServingValue, Turn, on, remains_of, Takes}
+use Rattle.http2.specs.Served.{answers_to, Serves, is_answer, answered, AreAnswers, IsSaid, answer, fields, away, move, AreSaid, Stops, IsServed}
 use Rattle.http2.specs.Servers.{opened_as}
 use Rattle.http2.specs.declared.over.Over.{Over}
 use Rattle.http2.proofs.Calls.{none_some}

@@ -2,7 +2,7 @@
 use Rattle.std.proofs.Common.{◌≡◌, ◌≢◌, ℕ, ◌==◌, ◌%◌, Bool, true, false, not, if◌then◌else◌, Option, Some, None, is_some, Result, Ok, Err, List, [], ◌∷◌, ◌++◌, refl, sym, ap, ap₂, ◌∙◌, inl, inr, true≢false, subst, arith, append_assoc, append-nil, take, OnOk, OnErr}
 use Rattle.std.proofs.lemmas.Bool.{ne_eqb}
 use Rattle.http2.specs.Frame.{Parts, parts_of, kind_of, payload_of, is_acknowledgement}
-use Rattle.http2.specs.Trail.{Step, got, put, is_reply, IsOwn, own_data, own_window, own_ping, own_reset, own_away, IsMove, move_data, move_window, move_ping, AreMoves, AreOwn, AreWritten, connected, Begins, Adds, Unread}
+use Rattle.http2.specs.Trail.{Step, got, put, is_reply, IsOwn, own_data, own_window, own_ping, own_reset, own_away, move_data, move_window, move_ping, AreMoves, AreOwn, AreWritten, connected, Begins, Adds, Unread}
 use Rattle.hpack.specs.Field.{Line as HeaderLine}
 use Rattle.hpack.specs.Table.{Table}
 use Rattle.http2.specs.Control.{ControlValue, Left, Next, goes_on, is_over, left_by, fields_came}

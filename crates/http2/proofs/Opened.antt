@@ -1,5 +1,5 @@
 -- The call's stream opens: until then no frame was on it.
-use Rattle.std.proofs.Common.{◌≡◌, ◌≢◌, ◌<◌, ℕ, ◌+◌, ◌==◌, Bool, true, false, List, [], ◌∷◌, ◌++◌, refl, sym, ap, ap₂, ◌∙◌, inl, inr, arith, if◌then◌else◌}
+use Rattle.std.proofs.Common.{◌≡◌, ◌≢◌, ℕ, ◌+◌, ◌==◌, Bool, true, false, List, [], ◌∷◌, ◌++◌, refl, sym, ap, ap₂, ◌∙◌, inl, inr, arith, if◌then◌else◌}
 use Rattle.std.proofs.lemmas.Bool.{cases_lt}
 use Rattle.http2.specs.Frame.{kind_of, stream_of, data_on, flow_of, flow_on, increment_of}
 use Rattle.http2.specs.Trail.{Step, got, put, Line, Law, IsQuiet, AreQuiet, data_got, data_put, flow_got_on, raised, given, offered, IsGranted}

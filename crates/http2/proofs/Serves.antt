@@ -1,15 +1,13 @@
 -- What is written and what comes does to a call that is served.
-use Rattle.std.proofs.Common.{◌≡◌, ◌≢◌, ◌<◌, ℕ, ◌==◌, ◌%◌, Bool, true, false, not, if◌then◌else◌, Option, Some, None, is_some, Result, Ok, Err, List, [], ◌∷◌, ◌++◌, refl, sym, ap, ap₂, ◌∙◌, inl, inr, true≢false, subst, arith, append_assoc, append-nil, OnOk, OnErr}
+use Rattle.std.proofs.Common.{◌≡◌, ◌≢◌, ℕ, Bool, true, false, if◌then◌else◌, Option, Some, None, Result, Ok, Err, List, [], ◌∷◌, ◌++◌, refl, sym, ap, ap₂, ◌∙◌, subst, arith, append_assoc, append-nil, OnOk, OnErr}
 use Rattle.std.proofs.lemmas.Bool.{ne_eqb}
 use Rattle.hpack.specs.Field.{Line as HeaderLine}
-use Rattle.http2.specs.Frame.{Parts, parts_of, kind_of, flags_of, stream_of, unopened, IsStream}
-use Rattle.http2.specs.Trail.{Step, got, put, is_reply, IsMove, move_data, move_window, move_ping, AreMoves, greeted, IsQuiet, AreQuiet, Adds, Unread}
-use Rattle.http2.specs.Call.{replies_to, AreReplies, StopsAt}
-use Rattle.http2.specs.Serving.{ServingValue, Turn, on, over, Remains, remains_of, Takes}
-use Rattle.http2.specs.Served.{refusing, answers_to, owed_for, Serves, is_answer, answered, AreAnswers, IsSaid, answer, fields, away, move, AreSaid, Stops, by_frame, by_fault, by_preface, by_answer, by_memory, IsServed}
+use Rattle.http2.specs.Frame.{Parts, parts_of, kind_of, unopened, IsStream}
+use Rattle.http2.specs.Trail.{Step, got, put, is_reply, IsMove, move_data, move_window, move_ping, AreMoves, greeted, Adds, Unread}
+use Rattle.http2.specs.Serving.{ServingValue, Turn, on, over, Remains, remains_of}
+use Rattle.http2.specs.Served.{Serves, is_answer, answered, IsSaid, fields, away, move, AreSaid, Stops, by_frame, by_fault, by_preface, by_answer, by_memory, IsServed}
 use Rattle.http2.specs.Servers.{Heads}
 use Rattle.http2.specs.declared.over.Over.{Over}
-use Rattle.http2.specs.declared.fault.Fault.{Fault}
 use Rattle.http2.specs.declared.pipe.Pipe.{Pipe}
 use Rattle.http2.specs.Lines.{line}
 use Rattle.http2.proofs.Calls.{other_reply, reply_by, none_some}

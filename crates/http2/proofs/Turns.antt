@@ -1,18 +1,16 @@
 -- What a frame with which a call that is served goes on does to the call's stream.
-use Rattle.std.proofs.Common.{◌≡◌, ◌≢◌, ◌<◌, ◌⊎◌, ℕ, zero, suc, ◌+◌, ◌*◌, ◌%◌, ◌==◌, length, Bool, true, false, not, if◌then◌else◌, Option, Some, None, is_some, List, [], refl, sym, ap, ap₂, ◌∙◌, inl, inr, true≢false, subst, arith, nat_lt}
+use Rattle.std.proofs.Common.{◌≡◌, ◌<◌, ◌⊎◌, ℕ, zero, suc, ◌%◌, ◌==◌, length, Bool, true, false, not, if◌then◌else◌, Option, Some, None, List, refl, sym, ap, ap₂, ◌∙◌, inl, inr, true≢false, subst, arith, nat_lt}
 use Rattle.hpack.specs.Field.{Line}
 use Rattle.std.proofs.lemmas.Bool.{eqb-true, eq-eqb}
 use Rattle.http2.specs.Frame.{word_at, is_acknowledgement, kind_of, flags_of, stream_of, payload_of, unopened, IsStream, content_of, ends_stream}
 use Rattle.http2.specs.Trail.{IsQuiet}
-use Rattle.http2.specs.Faults.{fault_of_client, wrong_by, wrong_continuation, wrong_data}
+use Rattle.http2.specs.Faults.{fault_of_client, wrong_by, wrong_continuation}
 use Rattle.http2.specs.Answer.{length_from, without, is_whole}
 use Rattle.http2.specs.Fields.{are_plain}
 use Rattle.http2.specs.Request.{is_request}
 use Rattle.http2.specs.Gathering.{Gathered, heavy, part, garbled, whole}
-use Rattle.http2.specs.Serving.{ServingValue, Turn, on, over, Remains, remains_of, breaks, fails, is_silent, is_closed, is_idle, is_astray, is_misplaced, settled, begun, phase_behind, opened, request_came, trailers_came, others_came, fields_came, gathered, content_came, data_came, reset_came, Says, content, begins, continues, reset, nothing, Takes, faulty, misplaced, placed}
+use Rattle.http2.specs.Serving.{ServingValue, Turn, on, over, remains_of, fails, is_silent, is_closed, is_idle, is_misplaced, settled, begun, phase_behind, opened, request_came, trailers_came, others_came, fields_came, gathered, content_came, data_came, reset_came, Says, content, begins, continues, reset, nothing, Takes, faulty, misplaced, placed}
 use Rattle.http2.specs.declared.fault.Code.{Code}
-use Rattle.http2.specs.declared.fault.Fault.{Fault}
-use Rattle.http2.specs.declared.over.Over.{Over}
 use Rattle.http2.specs.declared.over.Over.TheVariants.{Reset}
 use Rattle.http2.specs.declared.serving.Phase.TheVariants.{Closed}
 use Rattle.http2.proofs.Calls.{none_some}

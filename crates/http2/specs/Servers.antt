@@ -6,9 +6,8 @@ use Rattle.hpack.specs.Block.{Means}
 use Rattle.http2.specs.Frame.{unopened, kind_of, flags_of, stream_of, payload_of}
 use Rattle.http2.specs.Trail.{Step, got, preface, greeting_frame, window_frame, Law}
 use Rattle.http2.specs.Lines.{line, unread}
-use Rattle.http2.specs.Serving.{ServingValue, on}
 use Rattle.http2.specs.Servings.{serving_view}
-use Rattle.http2.specs.Served.{Serves, answered, IsServed}
+use Rattle.http2.specs.Served.{IsServed}
 use Rattle.http2.specs.declared.over.Over.{Over}
 use Rattle.http2.specs.declared.pipe.Pipe.{Pipe}
 use Rattle.http2.specs.declared.serving.Serving.{Serving}

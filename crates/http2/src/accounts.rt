@@ -1,6 +1,6 @@
 //! What a frame says to flow control, and what data it brings.
 
-ghost use Rattle.std.specs.Prelude.{◌≡◌, ◌≤◌, ◌<◌, ◌+◌, ◌^◌, length, drop, IfSome, IfNone};
+ghost use Rattle.std.specs.Prelude.{◌≡◌, ◌≤◌, ◌<◌, ◌+◌, ◌-◌, ◌^◌, ◌↔◌, IsTrue, length, drop, IfSome, IfNone};
 ghost use Rattle.http2.specs.Frame.{data_on, flow_of, flow_on, increment_of, window_in, window_first, window_after, is_pong, mark_of};
 ghost use Rattle.http2.specs.Trail.{ponged};
 
@@ -123,4 +123,20 @@ pub(crate) fn ponged(waits: Option<u64>, frame: &Frame) -> Option<u64>
         return None;
     }
     waits
+}
+
+/// What is left of a window.
+pub(crate) fn left(window: u32, more: u64, used: u64) -> u64
+    requires { more < 2 ^ 63 }
+    ensures { result ≡ window + more - used }
+{
+    (more + window as u64).saturating_sub(used)
+}
+
+/// Whether a window is larger than any may be.
+pub(crate) fn is_beyond(window: u32, more: u64, used: u64) -> bool
+    requires { more < 2 ^ 63 }
+    ensures { IsTrue result ↔ (2 ^ 31 ≤ window + more - used) }
+{
+    left(window, more, used) > 0x7fff_ffff
 }

@@ -10,10 +10,11 @@ ghost use Rattle.http2.specs.Served.{answers_to, AreAnswers};
 ghost use Rattle.http2.specs.Servers.{opened_as, Acts, Heads};
 
 use crate::fault::{Code, Fault};
+use crate::first_words::UNOPENED;
 use crate::frame::{Frame, HEADERS, MOST, RESET};
 use crate::opening::{are_short, reply};
 use crate::over::Over;
-use crate::pipe::{Pipe, UNOPENED};
+use crate::pipe::Pipe;
 use crate::serving::Serving;
 use hpack::{Field, encode};
 use std::alloc::{AllocError, Global};

@@ -1,60 +1,36 @@
 //! The pipe of a call: all bytes go through it, so that its law holds whatever the code above does.
-
 ghost use Rattle.std.specs.Prelude.{◌≡◌, ◌≤◌, ◌<◌, ◌+◌, ◌-◌, ◌^◌, ◌↔◌, IsTrue, length};
 
-use crate::accounts::{after, data, flow, flow_on, ponged, raise};
+use crate::accounts::{after, data, flow, flow_on, is_beyond, left, ponged, raise};
 use crate::cut::first_frame;
 use crate::fault::{Code, Fault};
+use crate::first_words::{GREETING, OPENING, UNOPENED, WINDOW};
 use crate::frame::{DATA, Frame, HEAD, MOST, PING, UPDATE};
 use crate::queue::Queue;
 use crate::written::{octets, written};
 use std::alloc::{AllocError, Global};
-
-/// The window that is announced: one message of the update stream and its head.
-pub const WINDOW: usize = 1_048_581;
-
-/// What a client says first: the preface, its settings (no pushes, the window, and 16,384 octets for the fields of a header
-/// block), and the window of the connection, raised to the same.
-const OPENING: &[u8; 64] = b"PRI * HTTP/2.0\r\n\r\nSM\r\n\r\n\
-\x00\x00\x12\x04\x00\x00\x00\x00\x00\x00\x02\x00\x00\x00\x00\x00\x04\x00\x10\x00\x05\x00\x06\x00\x00\x40\x00\
-\x00\x00\x04\x08\x00\x00\x00\x00\x00\x00\x0f\x00\x06";
-
-/// What a server says first: its settings (one stream at once, the window, and 16,384 octets for the fields of a header
-/// block), and the window of the connection, raised to the same.
-const GREETING: &[u8; 40] =
-    b"\x00\x00\x12\x04\x00\x00\x00\x00\x00\x00\x03\x00\x00\x00\x01\x00\x04\x00\x10\x00\x05\
-\x00\x06\x00\x00\x40\x00\
-\x00\x00\x04\x08\x00\x00\x00\x00\x00\x00\x0f\x00\x06";
-
-/// The number of a call's stream that is not open yet: no frame is on it.
-pub(crate) const UNOPENED: u32 = 2_147_483_648;
 
 /// The pipe of a call. A client's is on stream 1, a server's on the stream that its peer opens.
 #[derive(Debug, Drop)]
 pub(crate) struct Pipe {
     // the call's stream
     number: u32,
-    // bytes of the peer that were not looked at
+    // bytes of the peer that were not looked at, data for the core, and bytes for the peer
     rest: Queue,
-    // data for the core
     data_in: Queue,
-    // bytes for the peer
     out: Queue,
-    // the peer's initial window of a stream
+    // the peer's initial window of a stream; what it added to the stream's and to the connection's, and how much was used
     window: u32,
-    // what it added to the stream's window, and to the connection's
     stream: u64,
     connection: u64,
-    // how much of them was used
     used: u64,
     // how much the peer may send, and how much may be given back to it
     credit: usize,
     owed: usize,
     // how much came on other streams, and may be given back to the connection
     others: usize,
-    // whether the last of the data were written
+    // whether the last of the data were written, and the mark of the ping that waits for its acknowledgement
     finished: bool,
-    // the mark of the ping that waits for its acknowledgement
     waits: Option<u64>,
     ghost bounded: { length data_in + owed + credit ≡ 1048581 },
     ghost beside: { others ≤ credit },
@@ -298,8 +274,7 @@ impl Pipe {
         stream.min(connection) as usize
     }
 
-    /// Writes the first of the core's bytes as data, as far as both windows and the greatest frame allow. Returns how
-    /// many. There are none behind the last.
+    /// Writes the first of the core's bytes as data, as far as windows and frames allow. Returns how many; none after the last.
     pub fn say(&mut self, alloc: Global, bytes: &[u8]) -> Result<usize, AllocError>
         requires open { IsStream self.old.number }
         ensures number { self.new.number ≡ self.old.number }
@@ -422,20 +397,4 @@ impl Pipe {
         self.others = 0;
         Ok(())
     }
-}
-
-/// What is left of a window.
-fn left(window: u32, more: u64, used: u64) -> u64
-    requires { more < 2 ^ 63 }
-    ensures { result ≡ window + more - used }
-{
-    (more + window as u64).saturating_sub(used)
-}
-
-/// Whether a window is larger than any may be.
-fn is_beyond(window: u32, more: u64, used: u64) -> bool
-    requires { more < 2 ^ 63 }
-    ensures { IsTrue result ↔ (2 ^ 31 ≤ window + more - used) }
-{
-    left(window, more, used) > 0x7fff_ffff
 }

@@ -5,9 +5,10 @@ ghost use Rattle.http2.specs.Frame.{IsStream};
 
 use crate::acting::{head, serve};
 use crate::fault::{Code, Fault};
+use crate::first_words::WINDOW;
 use crate::frame::GOAWAY;
 use crate::over::{Over, broke};
-use crate::pipe::{Pipe, WINDOW};
+use crate::pipe::Pipe;
 use crate::serving::Serving;
 use crate::tunnel::{MOST_WAITING, PENDING};
 use crate::written::octets;

@@ -5,9 +5,10 @@ ghost use Rattle.std.specs.Prelude.{◌≡◌, ◌≤◌, None, true, length};
 use crate::control::Control;
 use crate::end::End;
 use crate::fault::Fault;
+use crate::first_words::WINDOW;
 use crate::frame::{GOAWAY, RESET};
 use crate::opening::{act, ask};
-use crate::pipe::{Pipe, WINDOW};
+use crate::pipe::Pipe;
 use hpack::Field;
 use std::alloc::{AllocError, Global};
 

@@ -1,6 +1,6 @@
-use Rattle.std.proofs.Common.{◌≡◌, List, ℕ, [], ◌∷◌, ◌++◌, Option, Some, None, Ok, refl, sym, ap, ap₂, subst, ◌∙◌}
+use Rattle.std.proofs.Common.{List, ℕ, [], ◌∷◌, ◌++◌, refl, sym, ap₂, ◌∙◌}
 use Rattle.http2.specs.Trail.{Step, got}
-use Rattle.http2.specs.Lines.{line, unread}
+use Rattle.http2.specs.Lines.{unread}
 use Rattle.http2.specs.Servings.{serving_view}
 use Rattle.http2.specs.Servers.{opened_as}
 use Rattle.http2.specs.Served.{answered, by_frame, by_memory}

@@ -1,4 +1,4 @@
-use Rattle.std.proofs.Common.{◌≡◌, ◌<◌, ◌+◌, ◌-◌, List, ℕ, [], ◌∷◌, ◌++◌, ap, ap₂, ◌∙◌, arith, rules}
+use Rattle.std.proofs.Common.{◌≡◌, ◌<◌, ◌+◌, ◌-◌, List, ℕ, [], ◌∷◌, ◌++◌, ap, ap₂, ◌∙◌, arith}
 use Rattle.http2.specs.Frame.{IsFrame, word_at, payload_of}
 use Rattle.http2.specs.Trail.{Line, put, move_window}
 use Rattle.http2.specs.Lines.{line}

@@ -1,5 +1,5 @@
-use Rattle.std.proofs.Common.{◌≡◌, ◌++◌, List, ℕ, arith, rules}
-use Rattle.http2.specs.Trail.{preface, settings_frame, greeting_frame, window_frame}
+use Rattle.std.proofs.Common.{◌≡◌, ◌++◌, arith, rules}
+use Rattle.http2.specs.Trail.{preface, settings_frame, window_frame}
 use Rattle.http2.proofs.Keeping.{law_connected}
 use Rattle.http2.proofs.pipe.Pipe.new.Goals as goal
 

@@ -1,4 +1,4 @@
-use Rattle.std.proofs.Common.{◌≢◌, ◌<◌, arith}
+use Rattle.std.proofs.Common.{◌≢◌, arith}
 use Rattle.http2.specs.Lines.{line}
 use Rattle.http2.proofs.Opened.{law_opened}
 use Rattle.http2.proofs.pipe.Pipe.open.Goals as goal

@@ -1,5 +1,5 @@
-use Rattle.std.proofs.Common.{◌≡◌, ◌++◌, List, ℕ, arith, rules}
-use Rattle.http2.specs.Trail.{preface, settings_frame, greeting_frame, window_frame}
+use Rattle.std.proofs.Common.{◌≡◌, ◌++◌, arith, rules}
+use Rattle.http2.specs.Trail.{greeting_frame, window_frame}
 use Rattle.http2.proofs.Keeping.{law_greeted}
 use Rattle.http2.proofs.pipe.Pipe.serving.Goals as goal
 

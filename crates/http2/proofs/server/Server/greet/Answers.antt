@@ -1,4 +1,4 @@
-use Rattle.std.proofs.Common.{◌≡◌, ◌≤◌, ◌<◌, ◌+◌, ◌-◌, min, List, ℕ, [], ◌++◌, Option, Some, None, refl, sym, ap, ap₂, take, drop, length, subst, arith, append_assoc, append-nil, rules, ◌∙◌}
+use Rattle.std.proofs.Common.{◌≡◌, ◌+◌, ◌-◌, min, List, ℕ, [], ◌++◌, refl, sym, ap, ap₂, take, drop, length, subst, append-nil, ◌∙◌}
 use Rattle.std.proofs.Math.Seq.{take-add}
 use Rattle.http2.specs.Trail.{preface, bytes_got, Law}
 use Rattle.http2.specs.Lines.{unread}

@@ -1,7 +1,6 @@
-use Rattle.std.proofs.Common.{◌≡◌, ◌≤◌, ◌+◌, ◌<◌, List, ℕ, ◌∷◌, ◌++◌, Option, Some, None, Ok, refl, sym, ap, length, arith, length-append, subst}
-use Rattle.http2.specs.Lines.{line, unread}
+use Rattle.std.proofs.Common.{List, ℕ, Option, None, Ok, refl, ap, length, arith, length-append, subst}
+use Rattle.http2.specs.Lines.{unread}
 use Rattle.http2.specs.Servings.{serving_view}
-use Rattle.http2.specs.Serving.{remains_of}
 use Rattle.http2.specs.Served.{answered, by_fault, IsServed}
 use Rattle.http2.specs.declared.over.Over.{Over}
 use Rattle.http2.specs.declared.over.Over.TheVariants.{Broken}

@@ -1,4 +1,4 @@
-use Rattle.std.proofs.Common.{take, ◌++◌, sym, subst, List, ℕ, append_assoc}
+use Rattle.std.proofs.Common.{take, ◌++◌, subst, List, ℕ, append_assoc}
 use Rattle.http2.specs.Trail.{preface, Law}
 use Rattle.http2.specs.Lines.{line}
 use Rattle.http2.proofs.server.Server.sent.Goals as goal

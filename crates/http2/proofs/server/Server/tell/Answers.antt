@@ -1,16 +1,9 @@
-use Rattle.std.proofs.Common.{◌≡◌, List, ℕ, [], ◌∷◌, ◌++◌, Option, Some, None, refl, sym, ap, take, subst, arith, append_assoc, true≢false, is_some, rules, ◌∙◌}
-use Rattle.std.proofs.lemmas.Result.{IfOk-weaker, on_err_weaker}
-use Rattle.http2.specs.Frame.{IsStream}
-use Rattle.http2.specs.Trail.{Step, put, preface, AreMoves, Gives, Law}
-use Rattle.http2.specs.Lines.{line, unread}
+use Rattle.std.proofs.Common.{◌++◌, Option, sym, ap, true≢false, is_some, ◌∙◌}
+use Rattle.http2.specs.Trail.{preface}
+use Rattle.http2.specs.Lines.{unread}
 use Rattle.http2.specs.Servings.{serving_view}
-use Rattle.http2.specs.Serving.{remains_of}
-use Rattle.http2.specs.Served.{answered, by_answer, by_memory, IsServed}
 use Rattle.http2.specs.declared.over.Over.{Over}
-use Rattle.http2.specs.declared.over.Over.TheVariants.{Broken, Answered}
-use Rattle.http2.specs.declared.fault.Fault.TheVariants.{Memory}
-use Rattle.http2.proofs.Calls.{none_of, on_err}
-use Rattle.http2.proofs.Serves.{AreSpoken, moves_spoken, heads_spoken, away_spoken, spoken_step, spoken_served, going_served, over_served, said_append, spoken_said, spoke}
+use Rattle.http2.proofs.Serves.{away_spoken, spoken_step, spoken_served}
 use Rattle.http2.proofs.server.Server.tell.Goals as goal
 
 pub returns-clause-stays : goal.returns-clause-stays
