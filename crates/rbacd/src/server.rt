@@ -8,8 +8,8 @@ use program_jobs::{
     JobFault, MISTAKE, ServerSettings, ServerSettingsFault, Source, end_by, end_by_memory,
     read_file, read_server_settings, server_settings_text, show, write_error,
 };
-use serve_host::{HostFault, host};
 use rbac_judge::Notes;
+use serve_host::{HostFault, host};
 use std::alloc::{AllocError, Global};
 use std::io::Write;
 

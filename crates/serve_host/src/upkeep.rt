@@ -5,11 +5,11 @@ ghost use Rattle.std.specs.Prelude.{◌≤◌, ◌-◌, ◌↔◌, ⊤, IsTrue, 
 use crate::admin_port::AdminPort;
 use crate::network::HostNetwork;
 use attributes::Conn;
-use serve_observe::{Logs, Observers};
 use serve_admin::{Admin, AdminAction};
 use serve_core::Served;
 use serve_log::{LogFiles, LogWriter};
 use serve_loop::Upkeep;
+use serve_observe::{Logs, Observers};
 use std::alloc::AllocError;
 use std::fs::{self, File, Files};
 use std::io::{self, ErrorKind, Input, Read, Write};
