@@ -78,6 +78,7 @@ def ends(case):
     peer = server.answers("a fault", [(last, faulty(b"400 Bad Request", 1))])
     peer.sendall(PLAIN * 3)
     case.same("and requests later", heard(peer, 1), b"")
+    peer.close()
     server.answers("the longest head", [(long_head(65_536), yes)]).close()
     server.ends("a byte more", [(long_head(65_537), told(TOO_LARGE, 1))])
     server.ends("a head without an end", [(PLAIN[:-2] + b"a: " + b"b" * 65_537, told(TOO_LARGE, 1))])
