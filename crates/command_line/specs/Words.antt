@@ -146,6 +146,13 @@ check_rule = record (new_rule (codes "check")) {
   action = Some SetTrue;
 }
 
+-- `--grpc`
+abbrev pub grpc_rule : Rule
+grpc_rule = record (new_rule (codes "grpc")) {
+  long = Some (codes "grpc");
+  action = Some SetTrue;
+}
+
 -- `check --policy FILE [--budget N] [--visits N] [--json]`
 abbrev pub check_app : App
 check_app = with_rule (with_rule (with_rule (with_rule (new_app (codes "check")) policy_rule) budget_rule) visits_rule)
@@ -168,10 +175,10 @@ replay_app = with_rule (with_rule (new_app (codes "replay")) config_rule) connec
 abbrev pub serve_app : App
 serve_app = with_rule (with_rule (new_app (codes "serve")) config_rule) check_rule
 
--- `control --listen ADDR --name F... [--log FILE] FILE...`, or with `--response FILE...` in place of names and files
+-- `control --listen ADDR --name F... [--log FILE] [--grpc] FILE...`, or with `--response FILE...` in place of names and files
 abbrev pub control_app : App
-control_app = with_rule (with_rule (with_rule (with_rule (with_rule (new_app (codes "control")) listen_rule) name_rule)
-    files_rule) response_rule) log_rule
+control_app = with_rule (with_rule (with_rule (with_rule (with_rule (with_rule (new_app (codes "control")) listen_rule)
+    name_rule) files_rule) response_rule) log_rule) grpc_rule
 
 -- `proxy --config FILE --control ADDR --listen ADDR --rounds N [--facts FILE] [--log FILE]`
 abbrev pub proxy_app : App
@@ -261,7 +268,7 @@ IsJobOfRows rows (Serve words) = (first_of (codes "config") rows ≡ Some (strin
     × HasFlag (codes "check") rows words.check
 IsJobOfRows rows (Control words) = (first_of (codes "listen") rows ≡ Some (string_bytes words.listen))
     × AreFilesOfRows rows words.snapshots
-    × (first_of (codes "log") rows ≡ option_map string_bytes words.log)
+    × (first_of (codes "log") rows ≡ option_map string_bytes words.log) × HasFlag (codes "grpc") rows words.grpc
 IsJobOfRows rows (Proxy words) = (first_of (codes "config") rows ≡ Some (string_bytes words.config))
     × (first_of (codes "control") rows ≡ Some (string_bytes words.control))
     × (first_of (codes "listen") rows ≡ Some (string_bytes words.listen))

@@ -2,7 +2,7 @@
 ghost use Rattle.std.specs.Prelude.{◌≡◌, IfOk, codes, false};
 ghost use Rattle.clap.specs.Words.{app_of, rule_of};
 ghost use Rattle.clap.specs.declared.builder.command.Command.TheViews.{out-Command};
-ghost use Rattle.command_line.specs.Words.{bare_app, batch_rule, budget_rule, check_app, check_config_app, check_rule, config_rule, connection_rule, control_app, control_rule, explain_rule, facts_rule, files_rule, json_rule, judge_app, listen_rule, log_rule, name_rule, policy_rule, proxy_app, rbacd_app, replay_app, response_rule, rounds_rule, serve_app, visits_rule};
+ghost use Rattle.command_line.specs.Words.{bare_app, batch_rule, budget_rule, check_app, check_config_app, check_rule, config_rule, connection_rule, control_app, control_rule, explain_rule, facts_rule, files_rule, grpc_rule, json_rule, judge_app, listen_rule, log_rule, name_rule, policy_rule, proxy_app, rbacd_app, replay_app, response_rule, rounds_rule, serve_app, visits_rule};
 
 use crate::help::{
     CHECK_CONFIG_HELP, CHECK_HELP, CONTROL_HELP, EXAMPLE, JUDGE_HELP, PROXY_HELP, REPLAY_HELP,
@@ -224,7 +224,8 @@ pub(crate) fn control_command<'a>(alloc: Global) -> Result<Command<'a>, AllocErr
         .arg(name_arg(alloc))?
         .arg(files_arg(alloc))?
         .arg(response_arg(alloc))?
-        .arg(log_arg(alloc))
+        .arg(log_arg(alloc))?
+        .arg(grpc_arg(alloc))
 }
 
 fn proxy_command<'a>(alloc: Global) -> Result<Command<'a>, AllocError>
@@ -303,6 +304,16 @@ fn log_arg<'a>(alloc: Global) -> Arg<'a>
     Arg::new(alloc, "log").long("log").value_name("FILE").help(
         "Where to log what happens, as JSON lines; - is standard error",
     )
+}
+
+fn grpc_arg<'a>(alloc: Global) -> Arg<'a>
+    ensures rule { rule_of result ≡ grpc_rule }
+    ensures local { result.global ≡ false }
+{
+    Arg::new(alloc, "grpc")
+        .long("grpc")
+        .action(ArgAction::SetTrue)
+        .help("Serve a call of gRPC over HTTP/2, in cleartext with prior knowledge")
 }
 
 fn rounds_arg<'a>(alloc: Global) -> Arg<'a>

@@ -6,7 +6,7 @@ ghost use Rattle.command_line.specs.declared.control_words.ControlWords.{Control
 ghost use Rattle.command_line.specs.declared.control_words.SnapshotFiles.{SnapshotFiles};
 ghost use Rattle.command_line.specs.declared.words.Job.TheVariants.{Control};
 
-use crate::texts::{text_of, texts_of};
+use crate::texts::{has_flag, text_of, texts_of};
 use clap::ArgMatches;
 use std::alloc::{AllocError, Global};
 
@@ -19,6 +19,8 @@ pub struct ControlWords {
     pub snapshots: SnapshotFiles,
     /// The path of the log, if one is kept.
     pub log: Option<String>,
+    /// Whether it serves a call of gRPC.
+    pub grpc: bool,
 }
 
 /// The files of snapshots.
@@ -55,10 +57,12 @@ pub(crate) fn control_words(
         return Ok(None);
     };
     let log_path = text_of(alloc, matches, "log")?;
+    let grpc = has_flag(matches, "grpc");
     Ok(Some(ControlWords {
         listen,
         snapshots,
         log: log_path,
+        grpc,
     }))
 }
 

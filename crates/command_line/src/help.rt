@@ -132,6 +132,11 @@ the client closes the stream, or the stream fails, it prints one line and ends w
   acknowledged N     N is the number of the snapshot that was acknowledged last, counted from 1
   acknowledged none  no snapshot was acknowledged
 
+With --grpc the client speaks gRPC over HTTP/2, in cleartext with prior knowledge. Its first call is served, if its path is
+  /envoy.service.discovery.v3.AggregatedDiscoveryService/StreamAggregatedResources
+  /envoy.service.extension.v3.ExtensionConfigDiscoveryService/StreamExtensionConfigs
+A call of another path ends with UNIMPLEMENTED, and the control plane with it.
+
 The status is 2 if the words are mistaken, a file cannot be read or holds no response, the output fails, or it
 cannot listen at the address. If memory runs out, but not while it serves, it prints memory and ends with 5.
 
@@ -143,7 +148,8 @@ With --log each line of that file is one of these objects:
 
 Examples:
   rbacd control --listen 127.0.0.1:18000 --name f examples/any_any.bin
-  rbacd control --listen 127.0.0.1:18000 --name deny --name allow examples/deny_any.bin examples/any_any.bin";
+  rbacd control --listen 127.0.0.1:18000 --name deny --name allow examples/deny_any.bin examples/any_any.bin
+  rbacd control --listen 127.0.0.1:18000 --grpc --name f examples/any_any.bin";
 
 /// The end of the help of `proxy`.
 pub(crate) const PROXY_HELP: &str =

@@ -1,6 +1,7 @@
-//! The texts that the words give to an argument.
+//! The texts and the flags that the words give.
 ghost use Rattle.std.specs.Prelude.{◌≡◌, IfOk, map, option_map, string_bytes};
 ghost use Rattle.clap.specs.Words.{all_of, first_of, found_of, rows_of};
+ghost use Rattle.command_line.specs.Words.{HasFlag};
 
 use clap::ArgMatches;
 use std::alloc::{AllocError, Global};
@@ -43,4 +44,14 @@ fn copy_texts(alloc: Global, texts: &[&str]) -> Result<Vec<String>, AllocError>
         copies.push(String::from_str(alloc, text)?)?;
     }
     Ok(copies)
+}
+
+/// Whether this flag was given.
+pub(crate) fn has_flag(matches: &ArgMatches<'_>, name: &str) -> bool
+    ensures { HasFlag name.now (rows_of (found_of matches.now)) result }
+{
+    match matches.get_str(name) {
+        Some(text) => text == "true",
+        None => false,
+    }
 }

@@ -1,13 +1,13 @@
 //! The command line, and the job that its words name.
 ghost use Rattle.std.specs.Prelude.{◌≡◌, ◌⊎◌, ℕ, Option, IfErr, IfNone, IfOk, IfSome, codes, false, map, option_map, string_bytes};
 ghost use Rattle.clap.specs.Words.{first_of, found_of, kind_of, rows_of, subcommand_rows_of};
-ghost use Rattle.command_line.specs.Words.{AreMistaken, AreRoundsOf, HasFlag, IsBudgetOf, IsJobOf, IsConnectionOf, IsJobOfNamed, IsJobOfRows, NamesNoJob, subcommand_name};
+ghost use Rattle.command_line.specs.Words.{AreMistaken, AreRoundsOf, IsBudgetOf, IsJobOf, IsConnectionOf, IsJobOfNamed, IsJobOfRows, NamesNoJob, subcommand_name};
 ghost use Rattle.command_line.specs.declared.words.Job.{Job};
 ghost use Rattle.cost_bound.specs.declared.budget.Budget.{Budget};
 
 use crate::commands::{command, control_command};
 use crate::control_words::{ControlWords, control_fault, control_words};
-use crate::texts::text_of;
+use crate::texts::{has_flag, text_of};
 use clap::error::ErrorKind;
 use clap::{ArgMatches, Error};
 use cost_bound::Budget;
@@ -39,8 +39,8 @@ pub enum Job {
     },
     /// `replay --config FILE [--connection K]`: runs the core of the proxy on the events on standard input.
     Replay(ReplayWords),
-    /// `control --listen ADDR --name F... [--log FILE] FILE...`, or with `--response FILE...` in place of names and
-    /// files: serves filters as a control plane.
+    /// `control --listen ADDR --name F... [--log FILE] [--grpc] FILE...`, or with `--response FILE...` in place of names
+    /// and files: serves filters as a control plane.
     Control(ControlWords),
     /// `proxy --config FILE --control ADDR --listen ADDR --rounds N [--facts FILE] [--log FILE]`: judges the requests
     /// of connections.
@@ -236,16 +236,6 @@ fn judge_job(alloc: Global, matches: &ArgMatches<'_>) -> Result<Option<Job>, All
         json,
         explain,
     })))
-}
-
-/// Whether this flag was given.
-fn has_flag(matches: &ArgMatches<'_>, name: &str) -> bool
-    ensures { HasFlag name.now (rows_of (found_of matches.now)) result }
-{
-    match matches.get_str(name) {
-        Some(text) => text == "true",
-        None => false,
-    }
 }
 
 /// The budget that was given, if it is allowed.

@@ -1,3 +1,4 @@
 mod Ends
 mod BatchEnds
 mod SnapshotLemmas
+mod Streams

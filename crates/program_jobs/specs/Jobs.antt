@@ -318,6 +318,11 @@ abbrev pub CannotLog : Option Text → JobFault → Type 0
 CannotLog log (faults.Log path cause) = log ≡ Some (string_bytes path)
 CannotLog log _ = ⊥
 
+-- the streams of a control plane: those that are accepted, or, if they are calls of gRPC, any
+abbrev pub streams_of : Bool → (Option Link → Type 0) → Option Link → Type 0
+streams_of false accepts = accepts
+streams_of true accepts = λ _. ⊤
+
 -- the line for the last acknowledged number
 abbrev pub acknowledged_line : Option ℕ → Text
 acknowledged_line (Some number) = codes "acknowledged " ++ decimal number ++ 10 ∷ []
@@ -426,7 +431,7 @@ module _ (holds : Text → Text → Type 0) (lacks : (Text × IoError) → Type 
     pub snapshots : List (List ResourceValue)
     pub read : AreSnapshotsOf holds lacks words.snapshots snapshots
     pub after : ControlValue
-    pub serves : ServesOneStream (accepts (string_bytes words.listen)) (new_control snapshots) after
+    pub serves : ServesOneStream (streams_of words.grpc (accepts (string_bytes words.listen))) (new_control snapshots) after
     pub number : acknowledged ≡ after.served.acknowledged
 
   -- a proxy of this configuration and these facts ran its rounds; before them the update stream was down

@@ -1,11 +1,11 @@
 //! The jobs that serve over sockets: the control plane and the proxy.
-ghost use Rattle.std.specs.Prelude.{◌≡◌, List, Option, ℕ, IfErr, IfOk, OnErr, OnOk, option_map, string_bytes};
+ghost use Rattle.std.specs.Prelude.{◌≡◌, ⊤, List, Option, ℕ, IfErr, IfOk, OnErr, OnOk, option_map, string_bytes};
 ghost use Rattle.attributes.specs.Conn.{conn_view};
 ghost use Rattle.attributes.specs.Limits.{FactsInLimits};
 ghost use Rattle.ads.specs.Ends.{control_view};
 ghost use Rattle.stream_pumps.specs.ControlPump.{ServesStream};
-ghost use Rattle.stream_pumps.specs.Rounds.{Link};
-ghost use Rattle.program_jobs.specs.Jobs.{CannotListen, CannotLog, EndsControl, EndsProxy, IsConnOf, IsProxied, IsServed, LacksFit, StopsControl, StopsProxy, acknowledged_line};
+ghost use Rattle.stream_pumps.specs.Rounds.{Link, ServesOneStream};
+ghost use Rattle.program_jobs.specs.Jobs.{CannotListen, CannotLog, EndsControl, EndsProxy, IsConnOf, IsProxied, IsServed, LacksFit, StopsControl, StopsProxy, acknowledged_line, streams_of};
 ghost use Rattle.command_line.specs.Words.{AreWhole};
 ghost use Rattle.program_jobs.specs.private.Stopping.{MemoryOrStop};
 
@@ -19,6 +19,7 @@ use crate::sockets::{Listen, Sockets};
 use ads::Control;
 use attributes::{Conn, Limits};
 use command_line::{ControlWords, ProxyWords};
+use grpc_server::call_on;
 use proxy_core::Proxy;
 use rbac_judge::Notes;
 use std::alloc::{AllocError, Global};
@@ -62,7 +63,7 @@ fn acknowledged_by<F: Source + Sockets>(
     let mut log = log_of(alloc, system, &words.log)?;
     let listener = listen(alloc, system, words.listen.as_str())?;
     let mut control = Control::new(alloc, snapshots);
-    serve_accepted(&mut control, listener.next_stream(), &mut log);
+    serve_first(alloc, &mut control, &listener, words.grpc, &mut log);
     Ok(control.acknowledged())
 }
 
@@ -93,6 +94,43 @@ fn listen<N: Sockets>(alloc: Global, sockets: &N, address: &str) -> Result<N::Li
         Ok(listener) => Ok(listener),
         Err(cause) => Err(JobFault::Listen(String::from_str(alloc, address)?, cause)),
     }
+}
+
+/// Serves the first stream that is accepted to its end, or the call of gRPC on it.
+fn serve_first<N: Listen, L: Write + Drop>(
+    alloc: Global,
+    control: &mut Control,
+    listener: &N,
+    grpc: bool,
+    log: &mut Log<L>,
+)
+    ensures { ServesOneStream (streams_of grpc (N.accepts listener.now))
+        (control_view control.old) (control_view control.new) }
+{
+    let accepted = listener.next_stream();
+    if grpc {
+        return serve_call(alloc, control, accepted, log);
+    }
+    serve_accepted(control, accepted, log);
+}
+
+/// Serves the call of gRPC on the stream to its end, if one was accepted and there is memory for it.
+fn serve_call<R: Read + Drop, W: Write + Drop, L: Write + Drop>(
+    alloc: Global,
+    control: &mut Control,
+    accepted: io::Result<(R, W)>,
+    log: &mut Log<L>,
+)
+    ensures { ServesOneStream (λ _. ⊤) (control_view control.old) (control_view control.new) }
+{
+    let Ok((reader, writer)) = accepted else {
+        return;
+    };
+    let Ok((mut reader, mut writer)) = call_on(alloc, reader, writer) else {
+        return;
+    };
+    serve_stream(control, &mut reader, &mut writer, log);
+    reader.end();
 }
 
 /// Serves the stream to its end, if one was accepted.

@@ -18,8 +18,10 @@ returns-clause-app c =
     ∙ ap₂ with_rule second c.files_arg.ensures.rule in
     let fourth = c.in_ok-arg-4.ensures.shape c.response_arg.ensures.local
     ∙ ap₂ with_rule third c.response_arg.ensures.rule in
-    IfOk-weaker c.arg-5.result _ _ (λ new adds. adds.shape c.log_arg.ensures.local
-    ∙ ap₂ with_rule fourth c.log_arg.ensures.rule) c.arg-5.ensures
+    let fifth = c.in_ok-arg-5.ensures.shape c.log_arg.ensures.local
+    ∙ ap₂ with_rule fourth c.log_arg.ensures.rule in
+    IfOk-weaker c.arg-6.result _ _ (λ new adds. adds.shape c.grpc_arg.ensures.local
+    ∙ ap₂ with_rule fifth c.grpc_arg.ensures.rule) c.arg-6.ensures
 
 pub returns-clause-local : goal.returns-clause-local
 returns-clause-local c =
@@ -27,7 +29,7 @@ returns-clause-local c =
     rw c.about.ensures c.new.ensures.local in
     let after : (out-Command c.after_help.result).has_globals ≡ false =
     rw c.after_help.ensures about in
-    IfOk-weaker c.arg-5.result _ _
+    IfOk-weaker c.arg-6.result _ _
     (λ new adds. adds.globals
-    ∙ rw (c.in_ok-arg-4.ensures.globals, c.in_ok-arg-3.ensures.globals, c.in_ok-arg-2.ensures.globals, c.in_ok-arg.ensures.globals, after, c.listen_arg.ensures.local, c.name_arg.ensures.local, c.files_arg.ensures.local, c.response_arg.ensures.local, c.log_arg.ensures.local) refl)
-    c.arg-5.ensures
+    ∙ rw (c.in_ok-arg-5.ensures.globals, c.in_ok-arg-4.ensures.globals, c.in_ok-arg-3.ensures.globals, c.in_ok-arg-2.ensures.globals, c.in_ok-arg.ensures.globals, after, c.listen_arg.ensures.local, c.name_arg.ensures.local, c.files_arg.ensures.local, c.response_arg.ensures.local, c.log_arg.ensures.local, c.grpc_arg.ensures.local) refl)
+    c.arg-6.ensures

@@ -1,7 +1,7 @@
 use Rattle.std.proofs.Common.{inl, inr}
 use Rattle.std.proofs.lemmas.Result.{err_from_is_err_and}
 use Rattle.program_jobs.specs.Jobs.{StopsControl}
-use Rattle.stream_pumps.proofs.RoundLemmas.{stream_of}
+use Rattle.program_jobs.proofs.Streams.{accepted_at}
 use Rattle.program_jobs.proofs.serve.acknowledged_by.Goals as goal
 
 pub returns-in_err-snapshots-clause-fault : goal.returns-in_err-snapshots-clause-fault
@@ -33,8 +33,7 @@ returns-clause-found g c = record {
   snapshots = _;
   read = c.in_ok-snapshots.ensures.found;
   after = _;
-  serves = rw c.new-control.ensures at (stream_of (g.F.Stream.Read.remaining) (g.F.Stream.Write.contents) c.next_stream.result
-      _ _ _ _ (rw c.as_str.ensures.value at c.in_ok-listener.ensures.found) c.next_stream.ensures
-      c.serve_accepted.ensures.served c.serve_accepted.ensures.none);
+  serves = rw c.new-control.ensures at (accepted_at c.args.words.now.grpc _ _ _ _
+      (rw c.as_str.ensures.value at c.in_ok-listener.ensures.found) c.serve_first.ensures);
   number = c.acknowledged.ensures;
 }

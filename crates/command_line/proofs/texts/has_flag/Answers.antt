@@ -2,7 +2,7 @@ use Rattle.std.proofs.Common.{◌∙◌, sym}
 use Rattle.clap.specs.Words.{found_of}
 use Rattle.clap.proofs.WalkLemmas.{first_value-rows}
 use Rattle.command_line.proofs.WordLemmas.{flag_given, flag_missing}
-use Rattle.command_line.proofs.words.has_flag.Goals as goal
+use Rattle.command_line.proofs.texts.has_flag.Goals as goal
 
 pub returns-in-Some : goal.returns-in-Some
 returns-in-Some c =
