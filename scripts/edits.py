@@ -203,7 +203,7 @@ def linked(file, to):
 
 def is_unread(line):
     """Whether a text of src/ or specs/ could not be read."""
-    at = re.match(r"(?:\./)?(?:src|specs)/\S+:\d+:\d+: error: (?:(`[^`]*`): )?(.*)", line)
+    at = re.match(r"(?:\./)?(?:src|specs)/\S+:\d+:\d+: error(?:\[[\w-]+\])?: (?:(`[^`]*`): )?(.*)", line)
     return bool(at) and (not at[1] or bool(UNREAD.search(re.sub(r"`[^`]*`", "", at[2]))))
 
 
