@@ -7,3 +7,5 @@ mod Reading
 mod FrontRuns
 mod MappedWire
 mod FrontSteps
+mod WrittenHeads
+mod MappedAsks

@@ -4,6 +4,7 @@ pub mod Cores
 pub mod OtherProtocols
 pub mod Rules
 pub mod ClientRequests
+pub mod ClientHeads
 pub mod Fronts
 pub mod Served
 pub mod MappedHeadline
