@@ -54,3 +54,11 @@ short left part n is h = omega arith
 -- one and more, less one
 pub one_less : (n : ℕ) → n ≡ 1 + n - 1
 one_less n = omega arith
+
+-- with what was paid before, one and a part were paid, or are more than what was left
+pub paid_all : (left before rest n out : ℕ) → left ≡ before + rest → rest ≡ 1 + n + out
+    → left ≡ before + (1 + n) + out
+paid_all left before rest n out e f = omega arith
+
+pub short_all : (left before rest n : ℕ) → left ≡ before + rest → rest < 1 + n → left < before + (1 + n)
+short_all left before rest n e f = omega arith

@@ -1,7 +1,7 @@
 -- Sizes are joined in any order.
 use Rattle.std.proofs.Common.{◌≡◌, ℕ, max, List, [], ◌∷◌, length, refl, ap, ◌∙◌, arith}
 use Rattle.cel_value.specs.Types.{ValueType}
-use Rattle.cel_costs.specs.Costs.{join_all, list_size}
+use Rattle.cel_costs.specs.Costs.{join_all, keys_of, list_size, map_size, values_of}
 use Rattle.cel_costs.specs.Sizes.{Size, Flat, Text, Many, Table, join, least}
 
 max_assoc : (n m p : ℕ) → max (max n m) p ≡ max n (max m p)
@@ -70,3 +70,14 @@ pub list_some : (t : ValueType) (ss : List Size) → (length ss ≡ 0 → ⊥)
     → list_size t ss ≡ Many (length ss) (join_all ss)
 list_some t [] h = absurd (h refl)
 list_some t (s ∷ ss) h = refl
+
+-- the size of a map literal by its number of keys
+pub map_none : (t : ValueType) (ss : List Size) → length (keys_of ss) ≡ 0 → map_size t ss ≡ least t
+map_none t [] h = refl
+map_none t (k ∷ []) h = absurd (omega arith)
+map_none t (k ∷ v ∷ ss) h = absurd (omega arith)
+
+pub map_some : (t : ValueType) (ss : List Size) → (length (keys_of ss) ≡ 0 → ⊥)
+    → map_size t ss ≡ Table (length (keys_of ss)) (join_all (keys_of ss)) (join_all (values_of ss))
+map_some t [] h = absurd (h refl)
+map_some t (k ∷ ss) h = refl

@@ -4,6 +4,7 @@
 mod bounding;
 mod budget;
 mod charges;
+mod joining;
 mod known;
 mod made;
 mod measure;

@@ -1,13 +1,14 @@
 //! The sizes of the answers of calls and literals, by the sizes of their operands.
 
-ghost use Rattle.std.specs.Prelude.{◌≡◌, ◌<◌, ◌+◌, ◌-◌, ◌^◌, List, [], ◌∷◌, IfOk, length};
+ghost use Rattle.std.specs.Prelude.{◌≡◌, ◌<◌, ◌+◌, ◌*◌, ◌^◌, List, [], ◌∷◌, IfOk, length};
 ghost use Rattle.cel_overload.specs.declared.overload.Overload.TheVariants.{Operate};
 ghost use Rattle.cel_value.specs.Types.{ValueType, type_view};
-ghost use Rattle.cel_costs.specs.Costs.{call_size, charge_at, concat_size, conversion_size, join_all, keys_of, list_size, map_cost, map_size, masses, values_of};
+ghost use Rattle.cel_costs.specs.Costs.{call_size, charge_at, concat_size, conversion_size, join_all, keys_of, list_size, map_size, masses};
 ghost use Rattle.cel_costs.specs.Sizes.{Size, most_of};
 ghost use Rattle.cost_bound.specs.private.Numbers.{capped};
-ghost use Rattle.cost_bound.specs.private.SizeView.{size_view, sizes_view};
+ghost use Rattle.cost_bound.specs.private.SizeView.{IsEntries, size_view, sizes_view};
 
+use crate::joining::join_owned;
 use crate::known::least;
 use crate::size::{ValueSize, join, many, product, sum, table};
 use cel_ops::{Conversion, Operation};
@@ -139,76 +140,73 @@ pub(crate) fn list_size(
     many(alloc, count, items)
 }
 
-/// The size of a map literal, by the sizes of its keys and values in turn; if it is empty, the
-/// least of its type.
+/// What was found of a map literal's keys and values, which are in turn, from one of them on: the sizes of those that are
+/// keys joined, and of the others, and the sums of their masses.
+#[derive(Drop)]
+pub(crate) struct Entries {
+    keys: ValueSize,
+    values: ValueSize,
+    key_mass: u64,
+    value_mass: u64,
+}
+
+impl Entries {
+    /// None yet.
+    pub(crate) fn none() -> Entries
+        ensures { IsEntries result [] }
+    {
+        Entries {
+            keys: ValueSize::Flat,
+            values: ValueSize::Flat,
+            key_mass: 0,
+            value_mass: 0,
+        }
+    }
+
+    /// The same from the one before on, which is of this size: a key. So what was a key is a value.
+    pub(crate) fn from_before(self, alloc: Global, size: ValueSize) -> Result<Entries, AllocError>
+        ensures { IfOk result (λ all. (ss : List Size) → IsEntries self ss
+            → IsEntries all (size_view size ∷ ss)) }
+    {
+        let key_mass = sum(size.mass(), self.value_mass);
+        let keys = join_owned(alloc, size, self.values)?;
+        Ok(Entries {
+            keys,
+            values: self.keys,
+            key_mass,
+            value_mass: self.key_mass,
+        })
+    }
+
+    /// The charge of the literal's instruction, less 1: the sum of its keys' masses times their number.
+    pub(crate) fn part(&self, keys: u64) -> u64
+        ensures { (ss : List Size) → IsEntries self.now ss → keys ≡ length (keys_of ss)
+            → result ≡ capped (masses (keys_of ss) * length (keys_of ss)) }
+    {
+        product(self.key_mass, keys)
+    }
+}
+
+/// How many of so many keys and values in turn are keys.
+pub(crate) fn key_count(count: usize) -> u64
+    ensures { (ss : List Size) → length ss ≡ count → result ≡ length (keys_of ss) }
+{
+    let all = count as u64;
+    all / 2 + all % 2
+}
+
+/// The size of a map literal with so many keys; if it is empty, the least of its type.
 pub(crate) fn map_size(
     alloc: Global,
     cel_type: &CelType,
-    sizes: &[ValueSize],
+    keys: u64,
+    entries: Entries,
 ) -> Result<ValueSize, AllocError>
-    ensures { IfOk result (λ size. size_view size
-        ≡ map_size (type_view cel_type.now) (sizes_view sizes.now)) }
+    ensures { IfOk result (λ size. (ss : List Size) → IsEntries entries ss → keys ≡ length (keys_of ss)
+        → size_view size ≡ map_size (type_view cel_type.now) ss) }
 {
-    if sizes.is_empty() {
+    if keys == 0 {
         return least(alloc, cel_type);
     }
-    let joined = join_turns(alloc, sizes)?;
-    table(alloc, key_count(sizes), joined.keys, joined.values)
-}
-
-// The sizes of keys joined, and those of values.
-#[derive(Drop)]
-struct Joined {
-    keys: ValueSize,
-    values: ValueSize,
-}
-
-// Joins the sizes of keys, and those of values, which are in turn. Goes from the last to the first:
-// with each size, keys and values change roles.
-fn join_turns(alloc: Global, sizes: &[ValueSize]) -> Result<Joined, AllocError>
-    ensures { IfOk result (λ joined.
-        (size_view joined.keys ≡ join_all (keys_of (sizes_view sizes.now)))
-        × (size_view joined.values ≡ join_all (values_of (sizes_view sizes.now)))) }
-{
-    let mut keys = ValueSize::Flat;
-    let mut values = ValueSize::Flat;
-    let mut at = sizes.len();
-    while at > 0 {
-        at -= 1;
-        let joined = join(alloc, &sizes[at], &values)?;
-        values = keys;
-        keys = joined;
-    }
-    Ok(Joined { keys, values })
-}
-
-fn key_count(sizes: &[ValueSize]) -> u64
-    ensures { result ≡ length (keys_of (sizes_view sizes.now)) }
-{
-    let count = sizes.len() as u64;
-    count / 2 + count % 2
-}
-
-/// The charge of a map literal's instruction, less 1: the sum of its keys' masses times their
-/// number.
-pub(crate) fn map_part(sizes: &[ValueSize]) -> u64
-    ensures { result ≡ capped (map_cost (sizes_view sizes.now) - 1) }
-{
-    product(key_mass(sizes), key_count(sizes))
-}
-
-// The sum of the keys' masses; goes from the last to the first, as `join_turns` does.
-fn key_mass(sizes: &[ValueSize]) -> u64
-    ensures { result ≡ capped (masses (keys_of (sizes_view sizes.now))) }
-{
-    let mut keys = 0;
-    let mut values = 0;
-    let mut at = sizes.len();
-    while at > 0 {
-        at -= 1;
-        let counted = sum(sizes[at].mass(), values);
-        values = keys;
-        keys = counted;
-    }
-    keys
+    table(alloc, keys, entries.keys, entries.values)
 }

@@ -15,8 +15,9 @@ ghost use Rattle.cost_bound.specs.private.SizeView.{size_view};
 
 use crate::budget::Budget;
 use crate::charges::{field_part, is_choice, pay, pay_turns};
+use crate::joining::join_owned;
 use crate::known::{attribute_size, constant_size};
-use crate::made::{list_size, map_part, map_size};
+use crate::made::{Entries, key_count, list_size, map_size};
 use crate::measured::{Measured, MeasuredEach, call_of, leaf};
 use crate::measuring::{Around, Measuring, Turns};
 use crate::scope::{all_of, find};
@@ -100,10 +101,8 @@ fn measure_field(
 {
     let found = measure(alloc, map, at, left)?;
     let left = pay(found.left, field_part(name, &found.size))?;
-    Ok(Measured {
-        size: found.size,
-        left,
-    })
+    let size = found.size;
+    Ok(Measured { size, left })
 }
 
 // Expressions in order.
@@ -143,7 +142,7 @@ fn measure_list(
     let mut rest = left;
     for item in items {
         let found = measure(alloc, item, at, rest)?;
-        joined = join(alloc, &joined, &found.size)?;
+        joined = join_owned(alloc, joined, found.size)?;
         rest = found.left;
     }
     let count = items.len() as u64;
@@ -152,7 +151,7 @@ fn measure_list(
     Ok(Measured { size, left })
 }
 
-// A map literal, by its keys and values in turn.
+// A map literal, by its keys and values in turn, from the last to the first.
 #[cycle(measure)]
 fn measure_map(
     alloc: Global,
@@ -164,14 +163,24 @@ fn measure_map(
     ensures found { IfOk result (FindsMap at.entry (type_view cel_type.now) (exprs_view pairs.now) left) }
     ensures fault { IfErr result (MemoryOr (ExceedsMap at.entry (exprs_view pairs.now) left)) }
 {
-    let found = measure_each(alloc, pairs, at, left)?;
-    let left = pay(found.left, map_part(&found.sizes))?;
-    let size = map_size(alloc, cel_type, &found.sizes)?;
+    let mut entries = Entries::none();
+    let mut rest = left;
+    let mut place = pairs.len();
+    while place > 0 {
+        place -= 1;
+        let found = measure(alloc, &pairs[place], at, rest)?;
+        entries = entries.from_before(alloc, found.size)?;
+        rest = found.left;
+    }
+    let keys = key_count(pairs.len());
+    let left = pay(rest, entries.part(keys))?;
+    let size = map_size(alloc, cel_type, keys, entries)?;
     Ok(Measured { size, left })
 }
 
 // A call; of a conditional's branches the greater cost counts.
 #[cycle(measure)]
+#[inline(always)]
 fn measure_call(
     alloc: Global,
     operands: &[TypedExpr<'_>],
@@ -190,6 +199,7 @@ fn measure_call(
 
 // A call of which each operand is evaluated. One operand or two need no memory for their sizes.
 #[cycle(measure)]
+#[inline(always)]
 fn measure_operands(
     alloc: Global,
     operands: &[TypedExpr<'_>],
@@ -246,10 +256,8 @@ fn measure_conditional(
                 visits: other.left.visits,
             };
             let left = pay(least, 0)?;
-            Ok(Measured {
-                size: join(alloc, &one.size, &other.size)?,
-                left,
-            })
+            let size = join_owned(alloc, one.size, other.size)?;
+            Ok(Measured { size, left })
         }
         _ => unreachable!(),
     }
@@ -303,15 +311,12 @@ fn measure_parts(
     };
     let accumulator = measure_turns(alloc, parts, &turns, count, begun)?;
     let closed = pay(accumulator.left, 0)?;
-    let after = Measuring {
-        around,
-        inner: &[&accumulator.size],
-    };
+    let inner = &[&accumulator.size];
+    let after = Measuring { around, inner };
     measure(alloc, &parts.result, after, closed)
 }
 
-// So many turns, in order, until the accumulator's size stays the same: then each of the others costs as
-// much as the last one, and is not visited.
+// So many turns, until the accumulator's size stays the same: each of the others costs as the last one, unvisited.
 #[cycle(measure)]
 fn measure_turns(
     alloc: Global,
@@ -333,18 +338,15 @@ fn measure_turns(
         others -= 1;
         if same(&turn.size, &accumulator) {
             let left = pay_turns(turn.left, others, rest.steps - turn.left.steps)?;
-            return Ok(Measured {
-                size: accumulator,
-                left,
-            });
+            let size = accumulator;
+            return Ok(Measured { size, left });
         }
         rest = turn.left;
         accumulator = turn.size;
     }
-    Ok(Measured {
-        size: accumulator,
-        left: rest,
-    })
+    let size = accumulator;
+    let left = rest;
+    Ok(Measured { size, left })
 }
 
 // One turn, and the accumulator's size after it.
@@ -393,8 +395,6 @@ fn measure_body(
     let tested = measure(alloc, &parts.condition, inside, left)?;
     let stepped = measure(alloc, &parts.step, inside, tested.left)?;
     let left = pay(stepped.left, 3)?;
-    Ok(Measured {
-        size: join(alloc, accumulator, &stepped.size)?,
-        left,
-    })
+    let size = join(alloc, accumulator, &stepped.size)?;
+    Ok(Measured { size, left })
 }

@@ -11,6 +11,7 @@ use std::rc::Rc;
 
 /// A size: the greatest number of bytes, items or entries, and the sizes of its parts, which are shared.
 #[derive(Drop)]
+#[cycle(size)]
 pub(crate) enum ValueSize {
     /// A bool, int or uint.
     Flat,
@@ -18,8 +19,16 @@ pub(crate) enum ValueSize {
     Text(u64),
     /// A list of at most so many items.
     Many(u64, Rc<ValueSize>),
-    /// A map of at most so many entries: the sizes of its keys and of its values.
-    Table(u64, Rc<ValueSize>, Rc<ValueSize>),
+    /// A map of at most so many entries.
+    Table(u64, Rc<TableParts>),
+}
+
+/// The sizes of a map's keys and of its values.
+#[derive(Drop)]
+#[cycle(size)]
+pub(crate) struct TableParts {
+    keys: ValueSize,
+    values: ValueSize,
 }
 
 impl ValueSize {
@@ -31,9 +40,7 @@ impl ValueSize {
             ValueSize::Flat => Ok(ValueSize::Flat),
             ValueSize::Text(most) => Ok(ValueSize::Text(*most)),
             ValueSize::Many(most, items) => Ok(ValueSize::Many(*most, items.clone()?)),
-            ValueSize::Table(most, keys, values) => {
-                Ok(ValueSize::Table(*most, keys.clone()?, values.clone()?))
-            }
+            ValueSize::Table(most, parts) => Ok(ValueSize::Table(*most, parts.clone()?)),
         }
     }
 
@@ -46,7 +53,7 @@ impl ValueSize {
             ValueSize::Flat => 0,
             ValueSize::Text(most) => *most,
             ValueSize::Many(most, _) => *most,
-            ValueSize::Table(most, _, _) => *most,
+            ValueSize::Table(most, _) => *most,
         }
     }
 
@@ -58,8 +65,8 @@ impl ValueSize {
             ValueSize::Flat => 1,
             ValueSize::Text(most) => sum(1, *most),
             ValueSize::Many(most, items) => sum(1, product(*most, items.mass())),
-            ValueSize::Table(most, keys, values) => {
-                sum(1, product(*most, sum(keys.mass(), values.mass())))
+            ValueSize::Table(most, parts) => {
+                sum(1, product(*most, sum(parts.keys.mass(), parts.values.mass())))
             }
         }
     }
@@ -70,7 +77,7 @@ impl ValueSize {
     {
         match self {
             ValueSize::Many(_, items) => items.copy(),
-            ValueSize::Table(_, keys, _) => keys.copy(),
+            ValueSize::Table(_, parts) => parts.keys.copy(),
             ValueSize::Flat => Ok(ValueSize::Flat),
             ValueSize::Text(_) => Ok(ValueSize::Flat),
         }
@@ -84,7 +91,7 @@ impl ValueSize {
             ValueSize::Flat => Ok(ValueSize::Flat),
             ValueSize::Text(_) => Ok(ValueSize::Flat),
             ValueSize::Many(_, _) => Ok(ValueSize::Flat),
-            ValueSize::Table(_, keys, _) => keys.copy(),
+            ValueSize::Table(_, parts) => parts.keys.copy(),
         }
     }
 
@@ -94,7 +101,7 @@ impl ValueSize {
     {
         match self {
             ValueSize::Many(_, items) => items.copy(),
-            ValueSize::Table(_, _, values) => values.copy(),
+            ValueSize::Table(_, parts) => parts.values.copy(),
             ValueSize::Flat => Ok(ValueSize::Flat),
             ValueSize::Text(_) => Ok(ValueSize::Flat),
         }
@@ -108,7 +115,7 @@ impl ValueSize {
             ValueSize::Flat => ValueSize::Flat,
             ValueSize::Text(_) => ValueSize::Text(most),
             ValueSize::Many(_, items) => ValueSize::Many(most, items),
-            ValueSize::Table(_, keys, values) => ValueSize::Table(most, keys, values),
+            ValueSize::Table(_, parts) => ValueSize::Table(most, parts),
         }
     }
 }
@@ -143,15 +150,11 @@ pub(crate) fn join(
     if covers(right, left) {
         return right.copy();
     }
-    match wider_of(alloc, left, right)? {
-        Wider::Both | Wider::Left => left.copy(),
-        Wider::Right => right.copy(),
-        Wider::Neither(size) => Ok(size),
-    }
+    wider_of(alloc, left, right)?.joined(left, right)
 }
 
-// Whether a size has room for all that another has room for. May say no for sizes of two kinds.
-fn covers(size: &ValueSize, other: &ValueSize) -> bool
+/// Whether a size has room for all that another has room for. May say no for sizes of two kinds.
+pub(crate) fn covers(size: &ValueSize, other: &ValueSize) -> bool
     ensures before { IsTrue result → join (size_view size.now) (size_view other.now) ≡ size_view size.now }
     ensures behind { IsTrue result → join (size_view other.now) (size_view size.now) ≡ size_view size.now }
 {
@@ -159,8 +162,8 @@ fn covers(size: &ValueSize, other: &ValueSize) -> bool
         (_, ValueSize::Flat) => true,
         (ValueSize::Text(n), ValueSize::Text(m)) => n >= m,
         (ValueSize::Many(n, a), ValueSize::Many(m, b)) => n >= m && covers(a, b),
-        (ValueSize::Table(n, j, a), ValueSize::Table(m, k, b)) => {
-            n >= m && covers(j, k) && covers(a, b)
+        (ValueSize::Table(n, a), ValueSize::Table(m, b)) => {
+            n >= m && covers(&a.keys, &b.keys) && covers(&a.values, &b.values)
         }
         _ => false,
     }
@@ -188,22 +191,15 @@ impl Wider {
         matches!(self, Wider::Both | Wider::Right)
     }
 
-    // The join of the parts of which this tells. A part that has room for both is shared.
-    fn shared(
-        self,
-        alloc: Global,
-        left: &Rc<ValueSize>,
-        right: &Rc<ValueSize>,
-    ) -> Result<Rc<ValueSize>, AllocError>
-        requires { IsWider self (size_view left.now.value) (size_view right.now.value) }
-        ensures { IfOk result (λ part. size_view part.value
-            ≡ join (size_view left.now.value) (size_view right.now.value)) }
+    // The join of the sizes of which this tells.
+    fn joined(self, left: &ValueSize, right: &ValueSize) -> Result<ValueSize, AllocError>
+        requires { IsWider self (size_view left.now) (size_view right.now) }
+        ensures { IfOk result (λ size. size_view size ≡ join (size_view left.now) (size_view right.now)) }
     {
         match self {
-            Wider::Both => left.clone(),
-            Wider::Left => left.clone(),
-            Wider::Right => right.clone(),
-            Wider::Neither(size) => Ok(Rc::new(alloc, size)?),
+            Wider::Both | Wider::Left => left.copy(),
+            Wider::Right => right.copy(),
+            Wider::Neither(size) => Ok(size),
         }
     }
 }
@@ -248,17 +244,17 @@ fn wider_of(alloc: Global, left: &ValueSize, right: &ValueSize) -> Result<Wider,
         (ValueSize::Many(most, items), ValueSize::Many(other, others)) => {
             wider_many(alloc, *most, *other, items, others)
         }
-        (ValueSize::Table(most, keys, values), ValueSize::Table(other, others, further)) => {
-            let first = wider_of(alloc, keys, others)?;
-            let second = wider_of(alloc, values, further)?;
+        (ValueSize::Table(most, parts), ValueSize::Table(other, others)) => {
+            let first = wider_of(alloc, &parts.keys, &others.keys)?;
+            let second = wider_of(alloc, &parts.values, &others.values)?;
             let left = *most >= *other && are_left(&first, &second);
             let right = *other >= *most && are_right(&first, &second);
             if let Some(known) = known_wider(left, right) {
                 return Ok(known);
             }
-            let keys = first.shared(alloc, keys, others)?;
-            let values = second.shared(alloc, values, further)?;
-            Ok(Wider::Neither(ValueSize::Table((*most).max(*other), keys, values)))
+            let keys = first.joined(&parts.keys, &others.keys)?;
+            let values = second.joined(&parts.values, &others.values)?;
+            Ok(Wider::Neither(table(alloc, (*most).max(*other), keys, values)?))
         }
         _ => Ok(Wider::Neither(join_parts(alloc, left, right)?)),
     }
@@ -270,11 +266,11 @@ fn wider_many(
     alloc: Global,
     most: u64,
     other: u64,
-    items: &Rc<ValueSize>,
-    others: &Rc<ValueSize>,
+    items: &ValueSize,
+    others: &ValueSize,
 ) -> Result<Wider, AllocError>
-    ensures { IfOk result (λ wider. IsWider wider (Many most (size_view items.now.value))
-        (Many other (size_view others.now.value))) }
+    ensures { IfOk result (λ wider. IsWider wider (Many most (size_view items.now))
+        (Many other (size_view others.now))) }
 {
     let part = wider_of(alloc, items, others)?;
     let left = most >= other && part.is_left();
@@ -282,8 +278,8 @@ fn wider_many(
     if let Some(known) = known_wider(left, right) {
         return Ok(known);
     }
-    let shared = part.shared(alloc, items, others)?;
-    Ok(Wider::Neither(ValueSize::Many(most.max(other), shared)))
+    let joined = part.joined(items, others)?;
+    Ok(Wider::Neither(many(alloc, most.max(other), joined)?))
 }
 
 fn wider_text(most: u64, other: u64) -> Wider
@@ -309,29 +305,27 @@ fn join_parts(alloc: Global, left: &ValueSize, right: &ValueSize) -> Result<Valu
             ValueSize::Many(other, others) => {
                 many(alloc, (*most).max(*other), join(alloc, items, others)?)
             }
-            ValueSize::Table(other, keys, values) => table_of(
+            ValueSize::Table(other, parts) => table_of(
                 alloc,
                 (*most).max(*other),
-                join(alloc, items, keys),
-                join(alloc, items, values),
+                join(alloc, items, &parts.keys),
+                join(alloc, items, &parts.values),
             ),
         },
-        ValueSize::Table(most, keys, values) => match right {
+        ValueSize::Table(most, parts) => match right {
             ValueSize::Flat => left.copy(),
-            ValueSize::Text(other) => {
-                Ok(ValueSize::Table((*most).max(*other), keys.clone()?, values.clone()?))
-            }
+            ValueSize::Text(other) => Ok(ValueSize::Table((*most).max(*other), parts.clone()?)),
             ValueSize::Many(other, items) => table_of(
                 alloc,
                 (*most).max(*other),
-                join(alloc, keys, items),
-                join(alloc, values, items),
+                join(alloc, &parts.keys, items),
+                join(alloc, &parts.values, items),
             ),
-            ValueSize::Table(other, others, further) => table_of(
+            ValueSize::Table(other, others) => table_of(
                 alloc,
                 (*most).max(*other),
-                join(alloc, keys, others),
-                join(alloc, values, further),
+                join(alloc, &parts.keys, &others.keys),
+                join(alloc, &parts.values, &others.values),
             ),
         },
     }
@@ -358,9 +352,7 @@ fn join_text(most: u64, right: &ValueSize) -> Result<ValueSize, AllocError>
         ValueSize::Flat => Ok(ValueSize::Text(most)),
         ValueSize::Text(other) => Ok(ValueSize::Text(most.max(*other))),
         ValueSize::Many(other, items) => Ok(ValueSize::Many(most.max(*other), items.clone()?)),
-        ValueSize::Table(other, keys, values) => {
-            Ok(ValueSize::Table(most.max(*other), keys.clone()?, values.clone()?))
-        }
+        ValueSize::Table(other, parts) => Ok(ValueSize::Table(most.max(*other), parts.clone()?)),
     }
 }
 
@@ -380,8 +372,8 @@ pub(crate) fn table(
 ) -> Result<ValueSize, AllocError>
     ensures { IfOk result (λ size. size_view size ≡ Table most (size_view keys) (size_view values)) }
 {
-    let shared = Rc::new(alloc, keys)?;
-    Ok(ValueSize::Table(most, shared, Rc::new(alloc, values)?))
+    let parts = TableParts { keys, values };
+    Ok(ValueSize::Table(most, Rc::new(alloc, parts)?))
 }
 
 /// Whether two sizes are the same.
@@ -392,8 +384,8 @@ pub(crate) fn same(left: &ValueSize, right: &ValueSize) -> bool
         (ValueSize::Flat, ValueSize::Flat) => true,
         (ValueSize::Text(n), ValueSize::Text(m)) => n == m,
         (ValueSize::Many(n, a), ValueSize::Many(m, b)) => n == m && same(a, b),
-        (ValueSize::Table(n, j, a), ValueSize::Table(m, k, b)) => {
-            n == m && same(j, k) && same(a, b)
+        (ValueSize::Table(n, a), ValueSize::Table(m, b)) => {
+            n == m && same(&a.keys, &b.keys) && same(&a.values, &b.values)
         }
         _ => false,
     }

@@ -1,22 +1,34 @@
 -- The sizes that values of the code mean.
 use Rattle.std.specs.Prelude.{◌≡◌, List, [], ◌∷◌, map, Option, Some, None}
+use Rattle.cel_costs.specs.Costs.{join_all, keys_of, masses, values_of}
 use Rattle.cel_costs.specs.Sizes.{Size, Flat, Text, Many, Table, join}
+use Rattle.cost_bound.specs.private.Numbers.{capped}
+use Rattle.cost_bound.specs.declared.made.Entries.{Entries}
 use Rattle.cost_bound.specs.declared.size.Wider.{Wider}
 use Rattle.cost_bound.specs.declared.size.Wider.TheVariants as widers
 use Rattle.cost_bound.specs.declared.size.ValueSize.{ValueSize, fold-ValueSize}
-use Rattle.cost_bound.specs.declared.size.ValueSize.TheOpen.{ValueSize-F}
+use Rattle.cost_bound.specs.declared.size.ValueSize.TheOpen.{ValueSize-F, TableParts-F}
 use Rattle.cost_bound.specs.declared.variables.VariableSizes.{VariableSizes}
 
+-- the sizes of a map's keys and of its values
+pub record PartSizes : Type 0 where
+  pub keys : Size
+  pub values : Size
+
 -- one level of a size, whose inner sizes are already translated
-abbrev pub size_level : ValueSize-F Size → Size
+abbrev pub size_level : ValueSize-F Size PartSizes → Size
 size_level ValueSize-F.Flat = Flat
 size_level (ValueSize-F.Text n) = Text n
 size_level (ValueSize-F.Many n e) = Many n e.value
-size_level (ValueSize-F.Table n k v) = Table n k.value v.value
+size_level (ValueSize-F.Table n p) = Table n p.value.keys p.value.values
+
+-- one level of a map's parts, whose sizes are already translated
+abbrev pub parts_level : TableParts-F Size PartSizes → PartSizes
+parts_level p = record { keys = p.keys; values = p.values }
 
 -- the size that a `ValueSize` means
 abbrev pub size_view : ValueSize → Size
-size_view = fold-ValueSize Size size_level
+size_view = fold-ValueSize Size PartSizes size_level parts_level
 
 -- the sizes that `ValueSize`s mean, in order
 abbrev pub sizes_view : List ValueSize → List Size
@@ -37,3 +49,8 @@ IsWider widers.Both s t = (join s t ≡ s) × (join s t ≡ t)
 IsWider widers.Left s t = join s t ≡ s
 IsWider widers.Right s t = join s t ≡ t
 IsWider (widers.Neither u) s t = size_view u ≡ join s t
+
+-- what was found of a map literal's keys and values, which have these sizes and begin with a key
+abbrev pub IsEntries : Entries → List Size → Type 0
+IsEntries e ss = (size_view e.keys ≡ join_all (keys_of ss)) × (size_view e.values ≡ join_all (values_of ss))
+    × (e.key_mass ≡ capped (masses (keys_of ss))) × (e.value_mass ≡ capped (masses (values_of ss)))

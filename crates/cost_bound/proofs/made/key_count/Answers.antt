@@ -1,12 +1,6 @@
-use Rattle.std.proofs.Common.{◌≡◌, length, arith}
-use Rattle.std.proofs.lemmas.List.{length-map}
-use Rattle.cost_bound.specs.private.SizeView.{size_view, sizes_view}
+use Rattle.std.proofs.Common.{arith}
 use Rattle.cost_bound.proofs.Turns.{key_count_fact}
 use Rattle.cost_bound.proofs.made.key_count.Goals as goal
 
 pub returns : goal.returns
-returns c =
-    let counted = key_count_fact (sizes_view c.args.sizes.now) in
-    let same : length (sizes_view c.args.sizes.now) ≡ length c.args.sizes.now =
-    length-map c.args.sizes.now size_view in
-    omega arith
+returns c = λ ss many. let counted = key_count_fact ss in omega (arith, many, counted)

@@ -1,4 +1,4 @@
-use Rattle.std.proofs.Common.{false, true, ◌+◌, ◌≡◌, ◌∙◌, ◌∷◌, ap, drop, length, refl, sym, arith}
+use Rattle.std.proofs.Common.{false, true, ◌+◌, ◌-◌, ◌≡◌, ◌∙◌, ◌∷◌, ap, drop, length, refl, sym, arith}
 use Rattle.std.proofs.lemmas.List.{drop_all, drop_more}
 use Rattle.std.proofs.lemmas.Result.{IfOk-weaker}
 use Rattle.cel_types.specs.Elaborated.{kinds}
@@ -10,10 +10,12 @@ use Rattle.cost_bound.specs.private.Measuring.{next_in, scope_in, turn_in, turn_
 use Rattle.cost_bound.specs.private.ScopeView.{scope_view}
 use Rattle.cost_bound.specs.private.SizeView.{size_view}
 use Rattle.cost_bound.proofs.Calls.{call_costs}
+use Rattle.cost_bound.proofs.Capped.{paid, paid_all, short, short_all}
 use Rattle.cost_bound.proofs.Choices.{three_of}
 use Rattle.cost_bound.proofs.ExprViews.{view_loop}
 use Rattle.cost_bound.proofs.Joining.{join_flat, join_next}
 use Rattle.cost_bound.proofs.Operands.{call_found, call_short, all_measured, one_measured, two_measured}
+use Rattle.cost_bound.proofs.Places.{costs_from, place_before, visits_from}
 use Rattle.cost_bound.proofs.Steps.{as_many, cost_count, exit_charge, exit_more, last_more, loop_costs, loop_seen, loop_size}
 use Rattle.cost_bound.proofs.SizeViews.{view_flat}
 use Rattle.cost_bound.proofs.Turns.{grown_next, grown_still, still_paid, still_short, turns_next, visits_next, visits_still}
@@ -68,6 +70,64 @@ measure_list-returns-in_err-left-clause-fault t c =
     let exit = c.from_residual-in_err-left in
     exit_charge _ _ _ _ c.args.left exit.result _ exit.ensures.1 c.in_err-left.ensures.fault
     (λ more. omega (arith, more, all.1, counted))
+
+pub measure_map-loop-place-preserved : goal.measure_map-loop-place-preserved
+measure_map-loop-place-preserved t c =
+    let before = c.loop-place.invariant in
+    let found = c.in_ok-found.ensures.found in
+    let front = place_before c.args.pairs.now c.loop-place.place c.index-pairs-place.result c.index-pairs-place.is
+    c.loop-place-test.true before.0 in
+    let more = c.in_ok-entries.ensures (sizes_of (exprs_view (drop c.loop-place.place c.args.pairs.now))
+    c.args.at.around.limits.now (scope_in c.args.at)) before.1 in
+    let entries = rw found.0 at more in
+    rw front (
+      omega (arith, before.0),
+      entries,
+      omega (arith, before.2, found.1),
+      omega (arith, before.3, found.2),
+    )
+
+pub measure_map-returns-in_err-found-clause-fault : goal.measure_map-returns-in_err-found-clause-fault
+measure_map-returns-in_err-found-clause-fault t c =
+    let l = c.args.at.around.limits.now in
+    let scope = scope_in c.args.at in
+    let before = c.loop-place.invariant in
+    let front = place_before c.args.pairs.now c.loop-place.place c.index-pairs-place.result c.index-pairs-place.is
+    c.loop-place-test.true before.0 in
+    let all = costs_from c.args.pairs.now (c.loop-place.place - 1) l scope in
+    let costs = rw front at all in
+    let each = visits_from c.args.pairs.now (c.loop-place.place - 1) l scope in
+    let seen = rw front at each in
+    let exit = c.from_residual-in_err-found in
+    exit_more _ _ c.loop-place.rest _ _ c.args.left exit.result _ exit.ensures.1 c.in_err-found.ensures.fault
+    (λ more. omega (arith, more, before.2, costs))
+    (λ more. omega (arith, more, before.3, seen))
+
+pub measure_map-returns-clause-found : goal.measure_map-returns-clause-found
+measure_map-returns-clause-found t c =
+    let none : c.loop-place.place ≡ 0 = omega arith in
+    let all = rw none at c.loop-place.invariant in
+    let counted = cost_count c.args.pairs.now c.args.at.around.limits.now (scope_in c.args.at) in
+    let many = as_many (exprs_view c.args.pairs.now) c.args.at.around.limits.now (scope_in c.args.at) in
+    let sizes = sizes_of (exprs_view c.args.pairs.now) c.args.at.around.limits.now (scope_in c.args.at) in
+    let keys = c.key_count-keys.ensures sizes (sym many ∙ counted) in
+    let left = c.in_ok-left.ensures.found in (
+      c.in_ok-size.ensures sizes all.1 keys,
+      paid_all _ _ _ _ _ all.2 (paid _ _ _ _ c.pay.ensures.fits (c.part.ensures sizes all.1 keys) left.0),
+      omega (arith, all.3, left.1),
+    )
+
+pub measure_map-returns-in_err-left-clause-fault : goal.measure_map-returns-in_err-left-clause-fault
+measure_map-returns-in_err-left-clause-fault t c =
+    let none : c.loop-place.place ≡ 0 = omega arith in
+    let all = rw none at c.loop-place.invariant in
+    let counted = cost_count c.args.pairs.now c.args.at.around.limits.now (scope_in c.args.at) in
+    let many = as_many (exprs_view c.args.pairs.now) c.args.at.around.limits.now (scope_in c.args.at) in
+    let sizes = sizes_of (exprs_view c.args.pairs.now) c.args.at.around.limits.now (scope_in c.args.at) in
+    let keys = c.key_count-keys.ensures sizes (sym many ∙ counted) in
+    let exit = c.from_residual-in_err-left in
+    exit_charge _ _ _ _ c.args.left exit.result _ exit.ensures.1 c.in_err-left.ensures.fault
+    (λ more. short_all _ _ _ _ all.2 (short _ _ _ (c.part.ensures sizes all.1 keys) more))
 
 pub measure_call-returns-clause-found : goal.measure_call-returns-clause-found
 measure_call-returns-clause-found t c =
@@ -151,7 +211,7 @@ measure_conditional-returns-clause-found t c =
     let one = c.in_ok-one-in-len3.ensures.found in
     let other = c.in_ok-other-in-len3.ensures.found in
     let left = c.in_ok-left-in-len3.ensures.found in
-    let joined = rw (one.0, other.0) at c.in_ok-join-in-len3.ensures in (
+    let joined = rw (one.0, other.0) at c.in_ok-size-in-len3.ensures in (
       joined ∙ sym three.sizes,
       three.costs _ _ _ _ _ _ _ tested.1 before.0 one.1 other.1 c.min.ensures left.0,
       omega (arith, three.seen, tested.2, before.1, one.2, other.2, left.1),

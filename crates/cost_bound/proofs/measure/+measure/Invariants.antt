@@ -1,10 +1,10 @@
-use Rattle.std.proofs.Common.{◌≡◌, ◌+◌, ◌++◌, drop}
+use Rattle.std.proofs.Common.{◌≡◌, ◌+◌, ◌≤◌, ◌++◌, drop, length}
 use Rattle.cel_types.specs.private.ExprViews.{exprs_view, parts_view}
 use Rattle.cel_costs.specs.Costs.{costs_of, grown, join_all, sizes_of, total, turns_cost}
 use Rattle.cel_costs.specs.Sizes.{join}
 use Rattle.cel_costs.specs.Visits.{turns_visits, visits_of_each}
 use Rattle.cost_bound.specs.private.Measuring.{next_in, scope_in, turn_in, turn_visits_in}
-use Rattle.cost_bound.specs.private.SizeView.{size_view, sizes_view}
+use Rattle.cost_bound.specs.private.SizeView.{IsEntries, size_view, sizes_view}
 use Rattle.cost_bound.proofs.measure.+measure.Given as goal
 
 abbrev pub invariant-measure_each-loop-expr : goal.invariant-measure_each-loop-expr
@@ -26,6 +26,18 @@ invariant-measure_list-loop-item l =
     ≡ total (costs_of (exprs_view l.items) l.at.around.limits.now (scope_in l.at)) + l.rest.steps)
     × (l.initial.rest.visits + visits_of_each (exprs_view (drop l.item-index l.items)) l.at.around.limits.now (scope_in l.at)
     ≡ visits_of_each (exprs_view l.items) l.at.around.limits.now (scope_in l.at) + l.rest.visits)
+
+abbrev pub invariant-measure_map-loop-place : goal.invariant-measure_map-loop-place
+invariant-measure_map-loop-place l =
+    (l.place ≤ length l.pairs)
+    × IsEntries l.entries (sizes_of (exprs_view (drop l.place l.pairs)) l.at.around.limits.now (scope_in l.at))
+    × (l.initial.rest.steps ≡ total (costs_of (exprs_view (drop l.place l.pairs)) l.at.around.limits.now (scope_in l.at))
+    + l.rest.steps)
+    × (l.initial.rest.visits ≡ visits_of_each (exprs_view (drop l.place l.pairs)) l.at.around.limits.now (scope_in l.at)
+    + l.rest.visits)
+
+abbrev pub decreases-measure_map-loop-place : goal.decreases-measure_map-loop-place
+decreases-measure_map-loop-place l = l.place
 
 abbrev pub invariant-measure_turns-loop-others : goal.invariant-measure_turns-loop-others
 invariant-measure_turns-loop-others l =

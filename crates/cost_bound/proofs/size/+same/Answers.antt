@@ -19,8 +19,7 @@ returns-in_default-3 t c = (
 pub returns-in_default-4 : goal.returns-in_default-4
 returns-in_default-4 t c = (
   λ h. absurd (let g : false ≡ true = h in cc),
-  λ e. absurd (no_table c.args.right.now c.in_default.not-Table-1 c.in_default.field-0-0 (size_view c.in_default.field-1-0.value) (size_view c.in_default.field-2-0.value) (rw (
-    ← view_table c.in_default.field-0-0 c.in_default.field-1-0 c.in_default.field-2-0,
-    ← c.in_default.is-0,
-  ) e)),
+  λ e. absurd (no_table c.args.right.now c.in_default.not-Table-1 c.in_default.field-0-0
+      (size_view c.in_default.field-1-0.value.keys) (size_view c.in_default.field-1-0.value.values)
+      (rw (← view_table c.in_default.field-0-0 c.in_default.field-1-0, ← c.in_default.is-0) e)),
 )
