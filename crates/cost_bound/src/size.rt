@@ -66,7 +66,10 @@ impl ValueSize {
             ValueSize::Text(most) => sum(1, *most),
             ValueSize::Many(most, items) => sum(1, product(*most, items.mass())),
             ValueSize::Table(most, parts) => {
-                sum(1, product(*most, sum(parts.keys.mass(), parts.values.mass())))
+                sum(
+                    1,
+                    product(*most, sum(parts.keys.mass(), parts.values.mass())),
+                )
             }
         }
     }
