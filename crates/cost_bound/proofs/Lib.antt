@@ -10,4 +10,4 @@ pub mod Steps
 pub mod Counting
 pub mod Operands
 pub mod Choices
-pub mod Joining
+pub mod JoinedParts

@@ -1,7 +1,7 @@
 use Rattle.std.proofs.Common.{◌≡◌, ◌∙◌, sym}
 use Rattle.std.proofs.lemmas.Result.{IfOk-weaker}
 use Rattle.cel_value.specs.Types.{type_view}
-use Rattle.cost_bound.proofs.Joining.{map_none, map_some}
+use Rattle.cost_bound.proofs.JoinedParts.{map_none, map_some}
 use Rattle.cost_bound.proofs.made.map_size.Goals as goal
 
 pub returns-then-keys-eq0 : goal.returns-then-keys-eq0

@@ -13,7 +13,7 @@ use Rattle.cost_bound.proofs.Calls.{call_costs}
 use Rattle.cost_bound.proofs.Capped.{paid, paid_all, short, short_all}
 use Rattle.cost_bound.proofs.Choices.{three_of}
 use Rattle.cost_bound.proofs.ExprViews.{view_loop}
-use Rattle.cost_bound.proofs.Joining.{join_flat, join_next}
+use Rattle.cost_bound.proofs.JoinedParts.{join_flat, join_next}
 use Rattle.cost_bound.proofs.Operands.{call_found, call_short, all_measured, one_measured, two_measured}
 use Rattle.cost_bound.proofs.Places.{costs_from, place_before, visits_from}
 use Rattle.cost_bound.proofs.Steps.{as_many, cost_count, exit_charge, exit_more, last_more, loop_costs, loop_seen, loop_size}
@@ -98,7 +98,7 @@ measure_map-returns-in_err-found-clause-fault t c =
     let costs = rw front at all in
     let each = visits_from c.args.pairs.now (c.loop-place.place - 1) l scope in
     let seen = rw front at each in
-    let exit = c.from_residual-in_err-found in
+    let exit = c.from_residual in
     exit_more _ _ c.loop-place.rest _ _ c.args.left exit.result _ exit.ensures.1 c.in_err-found.ensures.fault
     (λ more. omega (arith, more, before.2, costs))
     (λ more. omega (arith, more, before.3, seen))
