@@ -1,12 +1,12 @@
 -- The part of a head at which its parser stopped: a method and a space, and a line that begins with white space.
-use Rattle.std.proofs.Common.{◌≡◌, ◌≢◌, ◌∙◌, ◌↔◌, ℕ, zero, suc, ◌+◌, ◌-◌, ◌<◌, ◌≤◌, Bool, true, false, List, [], ◌∷◌, ◌++◌, length, get_or, take, drop, ap, sym, refl, arith, append_assoc, ◌⊎◌, inl, inr, All}
+use Rattle.std.proofs.Common.{◌≡◌, ◌≢◌, ◌∙◌, ◌↔◌, ℕ, zero, suc, ◌-◌, ◌<◌, ◌≤◌, Bool, true, false, List, [], ◌∷◌, ◌++◌, length, get_or, take, drop, ap, sym, refl, arith, append_assoc, ◌⊎◌, inl, inr}
 use Rattle.std.specs.Prelude.{IsTrue}
-use Rattle.std.proofs.lemmas.List.{take-append-drop, length-append}
+use Rattle.std.proofs.lemmas.List.{length-append}
 use Rattle.std.proofs.lemmas.List.Elements.{All-get_or}
 use Rattle.std.proofs.Math.Seq.{get_or-append_seam, take-append_seam, take-length}
 use Rattle.std.proofs.Math.ListN.{get_or-append}
 use Rattle.http_header.specs.Token.{IsToken, is_token_byte}
-use Rattle.httparse.specs.Grammar.{LineEnd, crlf, lf, print_end}
+use Rattle.httparse.specs.Grammar.{crlf, lf, print_end}
 use Rattle.http_front.specs.private.Stops.{BeginsWithBlank, BeginsWithEnd, BeginsWithMethod, FoldsIn, HasEmptyLine, skip_ends}
 
 -- ---- a method and a space
