@@ -21,4 +21,5 @@ pub mod RuleLemmas
 pub mod Spelling
 pub mod SpelledAsks
 pub mod AskOrFail
+pub mod Stopping
 pub mod StandardFacts

@@ -1,6 +1,7 @@
 package vupresal
 
 import (
+	"encoding/hex"
 	"errors"
 	"net/http"
 	"net/http/httptest"
@@ -152,6 +153,70 @@ func TestHandler(t *testing.T) {
 		answer.Body.Close()
 		if answer.StatusCode != want {
 			t.Errorf("%.20s: %d; want %d", target, answer.StatusCode, want)
+		}
+	}
+}
+
+// ofHTTP2 admits a filter that allows what the condition `request.protocol == "HTTP/2"` allows.
+func ofHTTP2(t *testing.T) *Filter {
+	t.Helper()
+	message, err := hex.DecodeString("0a4a12480a017012430a02180112021801223922371003323312045f3d3d5f1a1d10022a190a0d100122090a0772657175657374" +
+		"120870726f746f636f6c1a0c10041a083206" + hex.EncodeToString([]byte("HTTP/2")))
+	if err != nil {
+		t.Fatal(err)
+	}
+	filter, err := Admit(message, Options{})
+	if err != nil {
+		t.Fatal(err)
+	}
+	t.Cleanup(filter.Close)
+	return filter
+}
+
+func TestProtocols(t *testing.T) {
+	filter := ofHTTP2(t)
+	lines := []Line{{"Host", "h"}}
+	for _, row := range []struct {
+		request Request
+		want    bool
+	}{
+		{Request{HTTP10: true}, false},
+		{Request{HTTP10: true, ProtoMajor: 1}, false},
+		{Request{}, false},
+		{Request{ProtoMajor: 1}, false},
+		{Request{ProtoMajor: 2}, true},
+		{Request{ProtoMajor: 3}, false},
+	} {
+		request := row.request
+		request.Method, request.Target, request.Lines = "GET", "/", lines
+		if got, err := filter.Decide(&request, &Facts{}); err != nil || got.Allowed != row.want {
+			t.Errorf("HTTP10 %v, ProtoMajor %d: %v, %v; want %v", request.HTTP10, request.ProtoMajor, got, err, row.want)
+		}
+	}
+	for _, major := range []int{-1, 4, 11} {
+		if got, err := filter.Decide(&Request{Method: "GET", Target: "/", Lines: lines, ProtoMajor: major}, &Facts{}); got.Allowed || !errors.Is(err, OutOfRange) {
+			t.Errorf("ProtoMajor %d: %v, %v; want %v", major, got, err, OutOfRange)
+		}
+	}
+	if got, err := filter.Decide(&Request{Method: "GET", Target: "/", ProtoMajor: 2}, &Facts{}); got.Allowed || !errors.Is(err, BadRequest) {
+		t.Errorf("no host: %v, %v; want %v", got, err, BadRequest)
+	}
+}
+
+func TestHandlerByProtocol(t *testing.T) {
+	next := http.HandlerFunc(func(w http.ResponseWriter, _ *http.Request) { w.WriteHeader(http.StatusNoContent) })
+	for isHTTP2, want := range map[bool]int{true: 204, false: 403} {
+		server := httptest.NewUnstartedServer(ofHTTP2(t).Handler(next))
+		server.EnableHTTP2 = isHTTP2
+		server.StartTLS()
+		answer, err := server.Client().Get(server.URL)
+		if err != nil {
+			t.Fatal(err)
+		}
+		answer.Body.Close()
+		server.Close()
+		if (answer.ProtoMajor == 2) != isHTTP2 || answer.StatusCode != want {
+			t.Errorf("%s: %d; want %d", answer.Proto, answer.StatusCode, want)
 		}
 	}
 }
