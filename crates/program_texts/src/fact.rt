@@ -60,7 +60,7 @@ const FACTS: [Fact; 15] = [
 
 impl Fact {
     /// The name of the fact's member.
-    pub(crate) fn name(self) -> &'static str
+    pub fn name(self) -> &'static str
         ensures { result.now ≡ name_of self }
     {
         match self {

@@ -6,6 +6,7 @@ mod fact_fault;
 mod facts;
 mod given;
 mod input;
+pub mod laws;
 mod line_fault;
 mod members;
 mod output;

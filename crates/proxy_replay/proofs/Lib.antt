@@ -1,2 +1,5 @@
 mod ConfigurationLemmas
+mod KindNames
+mod LineLaws
+mod RecordLaws
 mod ReplayLemmas

@@ -1,4 +1,5 @@
 pub mod Configuration
 pub mod Lines
+pub mod Records
 pub mod Replays
 pub mod private

@@ -2,6 +2,7 @@
 #![tactic(auto)]
 
 mod configuration;
+pub mod laws;
 mod lines;
 mod meaning_text;
 pub mod replay;

@@ -1,3 +1,4 @@
 pub mod Frames
 pub mod Lines
 pub mod Writing
+pub mod private

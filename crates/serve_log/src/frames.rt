@@ -1,6 +1,7 @@
 //! Frames of the update stream, and the response that changes nothing.
 ghost use Rattle.std.specs.Prelude.{◌≡◌, ◌<◌, ◌^◌, IfOk, length};
-ghost use Rattle.serve_log.specs.Frames.{empty_response, frame_of};
+ghost use Rattle.xds_wire.specs.Frames.{frame_of};
+ghost use Rattle.serve_log.specs.Frames.{empty_response};
 
 use std::alloc::{AllocError, Global};
 

@@ -1,0 +1,2 @@
+mod IpGroups
+mod PutFacts
