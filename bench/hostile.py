@@ -345,8 +345,13 @@ def made_against_visits():
     for kind, count, make in kinds:
         yield f"11 nested loops of 2 turns, with {count} branches, each with {kind}", looped(
             names, choices([make(one, other) for one, other in two[:count]]))
-    empty, entry = empty_map()
-    for kind, count, item in (("450 empty maps", 4, empty), ("75 maps", 8, pairs((integer(1), integer(2))))):
+    lists = (
+        ("450 empty maps", 4, *empty_map()),
+        ("75 maps", 8, pairs((integer(1), integer(2))), b""),
+        ("450 empty lists", 4, *deep_list(1)),
+        ("450 empty lists of 50 levels", 4, *deep_list(50)),
+    )
+    for kind, count, item, entry in lists:
         items_of = items(*[item] * int(kind.split()[0]))
         yield f"11 nested loops of 2 turns, with {count} branches, each with a list of {kind}", looped(
             names, choices([is_short(items_of)] * count), entry=entry)

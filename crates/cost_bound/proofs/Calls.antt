@@ -1,11 +1,11 @@
 -- What a call costs: its operands, and one and a part besides.
-use Rattle.std.proofs.Common.{◌≡◌, ℕ, ◌+◌, ◌-◌, ◌≤◌, List, [], ◌∷◌, length, refl, arith}
+use Rattle.std.proofs.Common.{◌≡◌, ℕ, ◌+◌, ◌-◌, ◌≤◌, List, [], ◌∷◌, length, refl, ap, ◌∙◌, arith}
 use Rattle.cel_overload.specs.declared.overload.Overload.{Overload}
 use Rattle.cel_ops.specs.declared.operation.Operation.TheVariants as operations
 use Rattle.cel_overload.specs.declared.overload.Overload.TheVariants as overloads
 use Rattle.cel_value.specs.Types.{ValueType}
-use Rattle.cel_costs.specs.Sizes.{Size}
-use Rattle.cel_costs.specs.Costs.{call_cost, charge_at, total}
+use Rattle.cel_costs.specs.Sizes.{Size, Flat}
+use Rattle.cel_costs.specs.Costs.{call_cost, call_size, charge_at, total}
 use Rattle.cost_bound.specs.private.Measuring.{call_part}
 pub use Rattle.cel_costs.proofs.Charged.{charge_some}
 
@@ -96,3 +96,36 @@ part_covers (overloads.Operate operations.InMap) ts sizes = one_at_most (charge_
 part_covers (overloads.Operate operations.Size) ts sizes = one_at_most (charge_at (overloads.Operate operations.Size) ts sizes)
 part_covers (overloads.Operate (operations.Convert kind)) ts sizes = one_at_most (charge_at (overloads.Operate (operations.Convert kind)) ts sizes)
 part_covers (overloads.Operate (operations.TestText test)) ts sizes = one_at_most (charge_at (overloads.Operate (operations.TestText test)) ts sizes)
+
+-- a call of no operands has no part, and gives no size
+none_of : (o : Overload) (ts : List ValueType) → (call_size o [] ≡ Flat) × (call_part o ts [] ≡ 0)
+none_of (overloads.Operate operations.Size) [] = (refl, refl)
+none_of (overloads.Operate operations.Size) (t ∷ []) = (refl, refl)
+none_of (overloads.Operate operations.Size) (t ∷ k ∷ ts) = (refl, refl)
+none_of _ ts = (refl, refl)
+
+-- nor does one of three or more, except a conditional of three
+many_of : (o : Overload) (ts : List ValueType) (s t u : Size) (us : List Size) → (o ≡ overloads.Conditional → us ≡ [] → ⊥)
+    → (call_size o (s ∷ t ∷ u ∷ us) ≡ Flat) × (call_part o ts (s ∷ t ∷ u ∷ us) ≡ 0)
+many_of overloads.Conditional ts s t u [] h = absurd (h refl refl)
+many_of overloads.Conditional ts s t u (v ∷ vs) h = (refl, refl)
+many_of (overloads.Operate operations.Size) [] s t u us h = (refl, refl)
+many_of (overloads.Operate operations.Size) (k ∷ []) s t u us h = (refl, refl)
+many_of (overloads.Operate operations.Size) (k ∷ j ∷ ts) s t u us h = (refl, refl)
+many_of _ ts s t u us h = (refl, refl)
+
+no_part : (o : Overload) (ts : List ValueType) (sizes : List Size) → (length sizes ≡ 1 → ⊥) → (length sizes ≡ 2 → ⊥)
+    → (o ≡ overloads.Conditional → length sizes ≡ 3 → ⊥) → (call_size o sizes ≡ Flat) × (call_part o ts sizes ≡ 0)
+no_part o ts [] one two three = none_of o ts
+no_part o ts (s ∷ []) one two three = absurd (one refl)
+no_part o ts (s ∷ t ∷ []) one two three = absurd (two refl)
+no_part o ts (s ∷ t ∷ u ∷ us) one two three =
+    many_of o ts s t u us (λ is none. absurd (three is (ap (λ vs. length (s ∷ t ∷ u ∷ vs)) none)))
+
+-- so it costs its operands and one
+pub others_of : (o : Overload) (ts : List ValueType) (costs : List ℕ) (sizes : List Size) → length costs ≡ length sizes
+    → (length costs ≡ 1 → ⊥) → (length costs ≡ 2 → ⊥) → (o ≡ overloads.Conditional → length costs ≡ 3 → ⊥)
+    → (call_size o sizes ≡ Flat) × (call_cost o ts costs sizes ≡ total costs + 1)
+others_of o ts costs sizes same one two three =
+    let none = no_part o ts sizes (λ e. one (same ∙ e)) (λ e. two (same ∙ e)) (λ is e. three is (same ∙ e)) in
+    (none.0, call_costs o ts costs sizes same three ∙ ap (λ part. total costs + (1 + part)) none.1)

@@ -53,7 +53,7 @@ pub fn bound(
         },
         inner: &[],
     };
-    let measured = measure(alloc, &typed.root, at, budget)?;
+    let measured = measure(alloc, &typed.root, &at, budget)?;
     Ok(Budget {
         steps: budget.steps - measured.left.steps,
         visits: budget.visits - measured.left.visits,

@@ -65,39 +65,24 @@ pub(crate) fn field_part(name: &ArcStr, map: &ValueSize) -> u64
     product(sum(1, text_length(name)), map.most())
 }
 
-/// The charge of a call without its operands, less 1. Not for a conditional of three operands.
-pub(crate) fn call_part(overload: Overload, operands: &[TypedExpr<'_>], sizes: &[ValueSize]) -> u64
-    ensures { result ≡ capped (call_part overload (kinds (exprs_view operands.now)) (sizes_view sizes.now)) }
-{
-    if overload == Overload::Operate(Operation::Size) {
-        return counted_part(operands, sizes);
-    }
-    match sizes {
-        [size] => single_part(overload, size),
-        [first, second] => pair_part(overload, first, second),
-        _ => 0,
-    }
-}
-
-// The charge of an operation on one operand, less 1; not of `size`.
-fn single_part(overload: Overload, size: &ValueSize) -> u64
-    requires { overload ≢ overloads.Operate operations.Size }
-    ensures { (ts : List ValueType) → result ≡ capped (call_part overload ts (size_view size.now ∷ [])) }
+/// The charge of a call of one operand, less 1, by the operand and its size.
+pub(crate) fn single_part(overload: Overload, operand: &TypedExpr<'_>, size: &ValueSize) -> u64
+    ensures { result ≡ capped (call_part overload (kind (expr_view operand.now) ∷ []) (size_view size.now ∷ [])) }
 {
     match overload {
-        Overload::Operate(op) => converted_part(op, size),
+        Overload::Operate(op) => operand_part(op, operand, size),
         Overload::Conditional => 0,
     }
 }
 
 // The same, of an operation.
-fn converted_part(op: Operation, size: &ValueSize) -> u64
-    requires { op ≢ operations.Size }
-    ensures { (ts : List ValueType)
-        → result ≡ capped (call_part (overloads.Operate op) ts (size_view size.now ∷ [])) }
+fn operand_part(op: Operation, operand: &TypedExpr<'_>, size: &ValueSize) -> u64
+    ensures { result ≡ capped (call_part (overloads.Operate op) (kind (expr_view operand.now) ∷ [])
+        (size_view size.now ∷ [])) }
 {
     match op {
         Operation::Convert(kind) => conversion_part(kind, size),
+        Operation::Size => counted(operand, size),
         Operation::Arithmetic(_) => 0,
         Operation::Negate => 0,
         Operation::Not => 0,
@@ -107,7 +92,6 @@ fn converted_part(op: Operation, size: &ValueSize) -> u64
         Operation::Compare(_) => 0,
         Operation::TestText(_) => 0,
         Operation::Concat => 0,
-        Operation::Size => 0,
         Operation::ListIndex => 0,
         Operation::MapIndex => 0,
         Operation::InMap => 0,
@@ -129,20 +113,6 @@ fn conversion_part(kind: Conversion, size: &ValueSize) -> u64
     }
 }
 
-// The charge of `size`, less 1.
-fn counted_part(operands: &[TypedExpr<'_>], sizes: &[ValueSize]) -> u64
-    ensures { result ≡ capped (charge_at (overloads.Operate operations.Size) (kinds (exprs_view operands.now))
-        (sizes_view sizes.now) - 1) }
-{
-    match operands {
-        [operand] => match sizes {
-            [size] => counted(operand, size),
-            _ => 0,
-        },
-        _ => 0,
-    }
-}
-
 // The length of a text or bytes, which `size` counts; 0 for other types.
 fn counted(operand: &TypedExpr<'_>, size: &ValueSize) -> u64
     ensures { result ≡ capped (counted_cost (kind (expr_view operand.now)) (size_view size.now)) }
@@ -158,9 +128,8 @@ fn counted(operand: &TypedExpr<'_>, size: &ValueSize) -> u64
     }
 }
 
-// The charge of a call of two operands, less 1, by their sizes.
-fn pair_part(overload: Overload, first: &ValueSize, second: &ValueSize) -> u64
-    requires { overload ≢ overloads.Operate operations.Size }
+/// The charge of a call of two operands, less 1, by their sizes.
+pub(crate) fn pair_part(overload: Overload, first: &ValueSize, second: &ValueSize) -> u64
     ensures { (ts : List ValueType) → result
         ≡ capped (call_part overload ts (size_view first.now ∷ size_view second.now ∷ [])) }
 {
@@ -172,7 +141,6 @@ fn pair_part(overload: Overload, first: &ValueSize, second: &ValueSize) -> u64
 
 // The charge of an operation on two operands, less 1, by their sizes.
 fn operation_part(op: Operation, first: &ValueSize, second: &ValueSize) -> u64
-    requires { op ≢ operations.Size }
     ensures { (ts : List ValueType) → result
         ≡ capped (call_part (overloads.Operate op) ts (size_view first.now ∷ size_view second.now ∷ [])) }
 {

@@ -10,6 +10,7 @@ ghost use Rattle.cel_costs.specs.Costs.{attribute_size, constant_size};
 ghost use Rattle.cel_costs.specs.Sizes.{Text, least, least_key};
 ghost use Rattle.cost_bound.specs.private.SizeView.{size_view};
 
+use crate::measuring::Measuring;
 use crate::size::{ValueSize, many, table};
 use attributes::{AttrId, Limit, Limits};
 use cel_tree::Constant;
@@ -38,11 +39,12 @@ fn limit_of(limits: &Limits, limit: Limit) -> ValueSize
 /// The size of an attribute: the greatest within the limits.
 pub(crate) fn attribute_size(
     alloc: Global,
-    limits: &Limits,
+    at: &Measuring<'_>,
     id: AttrId,
 ) -> Result<ValueSize, AllocError>
-    ensures { IfOk result (λ size. size_view size ≡ attribute_size limits.now id) }
+    ensures { IfOk result (λ size. size_view size ≡ attribute_size at.now.around.limits.now id) }
 {
+    let limits = at.around.limits;
     match id {
         AttrId::RequestHeaders => headers_size(alloc, limits),
         AttrId::SourcePort => Ok(ValueSize::Flat),

@@ -16,35 +16,18 @@ use cel_overload::Overload;
 use cel_value::CelType;
 use std::alloc::{AllocError, Global};
 
-/// The size of a call's answer. Its charge has been paid, so the sum of two lengths fits 64 bits.
-pub(crate) fn call_size(
-    alloc: Global,
-    overload: Overload,
-    sizes: &[ValueSize],
-) -> Result<ValueSize, AllocError>
-    ensures { IfOk result (λ size. (ts : List ValueType)
-        → charge_at overload ts (sizes_view sizes.now) < 2 ^ 64
-        → size_view size ≡ call_size overload (sizes_view sizes.now)) }
+/// The size of the answer of a call of one operand.
+pub(crate) fn single_size(overload: Overload, size: &ValueSize) -> ValueSize
+    ensures { size_view result ≡ call_size overload (size_view size.now ∷ []) }
 {
-    match sizes {
-        [size] => match overload {
-            Overload::Operate(op) => Ok(single_size(op, size)),
-            Overload::Conditional => Ok(ValueSize::Flat),
-        },
-        [first, second] => match overload {
-            Overload::Operate(op) => pair_size(alloc, op, first, second),
-            Overload::Conditional => Ok(ValueSize::Flat),
-        },
-        [_, first, second] => match overload {
-            Overload::Conditional => join(alloc, first, second),
-            Overload::Operate(_) => Ok(ValueSize::Flat),
-        },
-        _ => Ok(ValueSize::Flat),
+    match overload {
+        Overload::Operate(op) => operand_size(op, size),
+        Overload::Conditional => ValueSize::Flat,
     }
 }
 
 // The size of the answer of an operation on one operand.
-fn single_size(op: Operation, size: &ValueSize) -> ValueSize
+fn operand_size(op: Operation, size: &ValueSize) -> ValueSize
     ensures { size_view result ≡ call_size (Operate op) (size_view size.now ∷ []) }
 {
     match op {
@@ -80,8 +63,25 @@ fn converted_size(kind: Conversion, size: &ValueSize) -> ValueSize
     }
 }
 
-// The size of the answer of an operation on two operands.
-fn pair_size(
+/// The size of the answer of a call of two operands. Its charge has been paid, so the sum of two lengths fits 64 bits.
+pub(crate) fn pair_size(
+    alloc: Global,
+    overload: Overload,
+    first: &ValueSize,
+    second: &ValueSize,
+) -> Result<ValueSize, AllocError>
+    ensures { IfOk result (λ size. (ts : List ValueType)
+        → charge_at overload ts (size_view first.now ∷ size_view second.now ∷ []) < 2 ^ 64
+        → size_view size ≡ call_size overload (size_view first.now ∷ size_view second.now ∷ [])) }
+{
+    match overload {
+        Overload::Operate(op) => operands_size(alloc, op, first, second),
+        Overload::Conditional => Ok(ValueSize::Flat),
+    }
+}
+
+// The same, of an operation.
+fn operands_size(
     alloc: Global,
     op: Operation,
     first: &ValueSize,

@@ -1,6 +1,6 @@
 //! Measures expressions: the size of the answer, the cost, and the visits.
 
-ghost use Rattle.std.specs.Prelude.{◌≡◌, ◌+◌, IfErr, IfOk, length};
+ghost use Rattle.std.specs.Prelude.{◌≡◌, ◌+◌, [], ◌∷◌, IfErr, IfOk, length};
 ghost use Rattle.proto_wire.specs.Refusal.{MemoryOr};
 ghost use Rattle.cel_overload.specs.declared.overload.Overload.TheVariants.{Conditional};
 ghost use Rattle.cel_types.specs.View.{expr_view};
@@ -8,7 +8,7 @@ ghost use Rattle.cel_types.specs.private.ExprViews.{exprs_view, parts_view};
 ghost use Rattle.cel_value.specs.Texts.{text_view};
 ghost use Rattle.cel_value.specs.Types.{ValueType, type_view};
 ghost use Rattle.cel_costs.specs.Sizes.{join};
-ghost use Rattle.cost_bound.specs.private.Finding.{ExceedsCall, ExceedsEach, ExceedsExpr, ExceedsField, ExceedsInside, ExceedsList, ExceedsLoop, ExceedsMap, ExceedsOperands, ExceedsTurn, ExceedsTurns, FindsCall, FindsEach, FindsExpr, FindsField, FindsInside, FindsList, FindsLoop, FindsMap, FindsOperands, FindsTurn, FindsTurns};
+ghost use Rattle.cost_bound.specs.private.Finding.{ExceedsBody, ExceedsCall, ExceedsExpr, ExceedsField, ExceedsInside, ExceedsList, ExceedsLoop, ExceedsMap, ExceedsOthers, ExceedsParts, ExceedsTurn, ExceedsTurns, FindsBody, FindsCall, FindsExpr, FindsField, FindsHas, FindsInside, FindsList, FindsLoop, FindsMap, FindsOthers, FindsParts, FindsTurn, FindsTurns};
 ghost use Rattle.cost_bound.specs.private.Measuring.{Exceeds, Finds, cost_in, scope_in, size_in, visits_in};
 ghost use Rattle.cost_bound.specs.private.ScopeView.{scope_view};
 ghost use Rattle.cost_bound.specs.private.SizeView.{size_view};
@@ -18,7 +18,7 @@ use crate::charges::{field_part, is_choice, pay, pay_turns};
 use crate::joining::join_owned;
 use crate::known::{attribute_size, constant_size};
 use crate::made::{Entries, key_count, list_size, map_size};
-use crate::measured::{Measured, MeasuredEach, call_of, leaf};
+use crate::measured::{Measured, call_of_one, call_of_two, leaf};
 use crate::measuring::{Around, Measuring, Turns};
 use crate::scope::{all_of, find};
 use crate::size::{ValueSize, join, same};
@@ -36,11 +36,11 @@ use std::sync::ArcStr;
 pub(crate) fn measure(
     alloc: Global,
     expr: &TypedExpr<'_>,
-    at: Measuring<'_>,
+    at: &Measuring<'_>,
     left: Budget,
 ) -> Result<Measured, Refusal>
-    ensures found { IfOk result (FindsExpr at.entry (expr_view expr.now) left) }
-    ensures fault { IfErr result (MemoryOr (ExceedsExpr at.entry (expr_view expr.now) left)) }
+    ensures found { IfOk result (FindsExpr at.now (expr_view expr.now) left) }
+    ensures fault { IfErr result (MemoryOr (ExceedsExpr at.now (expr_view expr.now) left)) }
 {
     let rest = visit(left, expr.cel_type())?;
     measure_node(alloc, expr, at, rest)
@@ -51,31 +51,18 @@ pub(crate) fn measure(
 fn measure_node(
     alloc: Global,
     expr: &TypedExpr<'_>,
-    at: Measuring<'_>,
+    at: &Measuring<'_>,
     left: Budget,
 ) -> Result<Measured, Refusal>
-    ensures found { IfOk result (FindsInside at.entry (expr_view expr.now) left) }
-    ensures fault { IfErr result (MemoryOr (ExceedsInside at.entry (expr_view expr.now) left)) }
+    ensures found { IfOk result (FindsInside at.now (expr_view expr.now) left) }
+    ensures fault { IfErr result (MemoryOr (ExceedsInside at.now (expr_view expr.now) left)) }
 {
     match expr {
         TypedExpr::Constant { value, .. } => leaf(constant_size(value), left),
         TypedExpr::Local { outside, .. } => leaf(find(at, *outside)?, left),
-        TypedExpr::Attribute { id, .. } => leaf(
-            attribute_size(alloc, at.around.limits, *id)?,
-            left,
-        ),
-        TypedExpr::Field { map, name, .. } => {
-            let found = measure_field(alloc, map, at, name, left)?;
-            let size = found.size.value()?;
-            let left = found.left;
-            Ok(Measured { size, left })
-        }
-        TypedExpr::HasField { map, name, .. } => {
-            let found = measure_field(alloc, map, at, name, left)?;
-            let size = ValueSize::Flat;
-            let left = found.left;
-            Ok(Measured { size, left })
-        }
+        TypedExpr::Attribute { id, .. } => leaf(attribute_size(alloc, at, *id)?, left),
+        TypedExpr::Field { map, name, .. } => measure_field(alloc, map, at, name, left),
+        TypedExpr::HasField { map, name, .. } => measure_has(alloc, map, at, name, left),
         TypedExpr::Call {
             overload,
             operands,
@@ -87,43 +74,42 @@ fn measure_node(
     }
 }
 
-// A look-up of a name in a map; gives the map's size.
+// A look-up of a name in a map; gives the size of the map's values.
 #[cycle(measure)]
+#[inline(always)]
 fn measure_field(
     alloc: Global,
     map: &TypedExpr<'_>,
-    at: Measuring<'_>,
+    at: &Measuring<'_>,
     name: &ArcStr,
     left: Budget,
 ) -> Result<Measured, Refusal>
-    ensures found { IfOk result (FindsField at.entry (expr_view map.now) (text_view name.now) left) }
-    ensures fault { IfErr result (MemoryOr (ExceedsField at.entry (expr_view map.now) (text_view name.now) left)) }
+    ensures found { IfOk result (FindsField at.now (expr_view map.now) (text_view name.now) left) }
+    ensures fault { IfErr result (MemoryOr (ExceedsField at.now (expr_view map.now) (text_view name.now) left)) }
 {
     let found = measure(alloc, map, at, left)?;
     let left = pay(found.left, field_part(name, &found.size))?;
-    let size = found.size;
+    let size = found.size.value()?;
     Ok(Measured { size, left })
 }
 
-// Expressions in order.
+// The question whether a map has a name.
 #[cycle(measure)]
-fn measure_each(
+#[inline(always)]
+fn measure_has(
     alloc: Global,
-    exprs: &[TypedExpr<'_>],
-    at: Measuring<'_>,
+    map: &TypedExpr<'_>,
+    at: &Measuring<'_>,
+    name: &ArcStr,
     left: Budget,
-) -> Result<MeasuredEach, Refusal>
-    ensures found { IfOk result (FindsEach at.entry (exprs_view exprs.now) left) }
-    ensures fault { IfErr result (MemoryOr (ExceedsEach at.entry (exprs_view exprs.now) left)) }
+) -> Result<Measured, Refusal>
+    ensures found { IfOk result (FindsHas at.now (expr_view map.now) (text_view name.now) left) }
+    ensures fault { IfErr result (MemoryOr (ExceedsField at.now (expr_view map.now) (text_view name.now) left)) }
 {
-    let mut sizes = Vec::with_capacity(alloc, exprs.len())?;
-    let mut rest = left;
-    for expr in exprs {
-        let found = measure(alloc, expr, at, rest)?;
-        sizes.push(found.size)?;
-        rest = found.left;
-    }
-    Ok(MeasuredEach { sizes, left: rest })
+    let found = measure_field(alloc, map, at, name, left)?;
+    let size = ValueSize::Flat;
+    let left = found.left;
+    Ok(Measured { size, left })
 }
 
 // A list literal. The sizes of its items are joined as they are found.
@@ -131,12 +117,12 @@ fn measure_each(
 fn measure_list(
     alloc: Global,
     items: &[TypedExpr<'_>],
-    at: Measuring<'_>,
+    at: &Measuring<'_>,
     cel_type: &CelType,
     left: Budget,
 ) -> Result<Measured, Refusal>
-    ensures found { IfOk result (FindsList at.entry (type_view cel_type.now) (exprs_view items.now) left) }
-    ensures fault { IfErr result (MemoryOr (ExceedsList at.entry (exprs_view items.now) left)) }
+    ensures found { IfOk result (FindsList at.now (type_view cel_type.now) (exprs_view items.now) left) }
+    ensures fault { IfErr result (MemoryOr (ExceedsList at.now (exprs_view items.now) left)) }
 {
     let mut joined = ValueSize::Flat;
     let mut rest = left;
@@ -156,12 +142,12 @@ fn measure_list(
 fn measure_map(
     alloc: Global,
     pairs: &[TypedExpr<'_>],
-    at: Measuring<'_>,
+    at: &Measuring<'_>,
     cel_type: &CelType,
     left: Budget,
 ) -> Result<Measured, Refusal>
-    ensures found { IfOk result (FindsMap at.entry (type_view cel_type.now) (exprs_view pairs.now) left) }
-    ensures fault { IfErr result (MemoryOr (ExceedsMap at.entry (exprs_view pairs.now) left)) }
+    ensures found { IfOk result (FindsMap at.now (type_view cel_type.now) (exprs_view pairs.now) left) }
+    ensures fault { IfErr result (MemoryOr (ExceedsMap at.now (exprs_view pairs.now) left)) }
 {
     let mut entries = Entries::none();
     let mut rest = left;
@@ -184,48 +170,74 @@ fn measure_map(
 fn measure_call(
     alloc: Global,
     operands: &[TypedExpr<'_>],
-    at: Measuring<'_>,
+    at: &Measuring<'_>,
     overload: Overload,
     left: Budget,
 ) -> Result<Measured, Refusal>
-    ensures found { IfOk result (FindsCall at.entry overload (exprs_view operands.now) left) }
-    ensures fault { IfErr result (MemoryOr (ExceedsCall at.entry overload (exprs_view operands.now) left)) }
+    ensures found { IfOk result (FindsCall at.now overload (exprs_view operands.now) left) }
+    ensures fault { IfErr result (MemoryOr (ExceedsCall at.now overload (exprs_view operands.now) left)) }
 {
-    if is_choice(overload, operands) {
-        return measure_conditional(alloc, operands, at, left);
+    match operands.len() {
+        1 => measure_single(alloc, &operands[0], at, overload, left),
+        2 => measure_pair(alloc, operands, at, overload, left),
+        _ if is_choice(overload, operands) => measure_conditional(alloc, operands, at, left),
+        _ => measure_others(alloc, operands, at, left),
     }
-    measure_operands(alloc, operands, at, overload, left)
 }
 
-// A call of which each operand is evaluated. One operand or two need no memory for their sizes.
+// A call of one operand.
 #[cycle(measure)]
 #[inline(always)]
-fn measure_operands(
+fn measure_single(
     alloc: Global,
-    operands: &[TypedExpr<'_>],
-    at: Measuring<'_>,
+    only: &TypedExpr<'_>,
+    at: &Measuring<'_>,
     overload: Overload,
     left: Budget,
 ) -> Result<Measured, Refusal>
-    ensures found { IfOk result (FindsOperands at.entry overload (exprs_view operands.now) left) }
-    ensures fault { IfErr result (MemoryOr (ExceedsOperands at.entry overload (exprs_view operands.now) left)) }
+    ensures found { IfOk result (FindsCall at.now overload (exprs_view (only.now ∷ [])) left) }
+    ensures fault { IfErr result (MemoryOr (ExceedsCall at.now overload (exprs_view (only.now ∷ [])) left)) }
 {
-    match operands {
-        [first, second] => {
-            let one = measure(alloc, first, at, left)?;
-            let other = measure(alloc, second, at, one.left)?;
-            let left = other.left;
-            call_of(alloc, overload, operands, &[one.size, other.size], left)
-        }
-        [only] => {
-            let one = measure(alloc, only, at, left)?;
-            call_of(alloc, overload, operands, &[one.size], one.left)
-        }
-        _ => {
-            let found = measure_each(alloc, operands, at, left)?;
-            call_of(alloc, overload, operands, &found.sizes, found.left)
-        }
+    let found = measure(alloc, only, at, left)?;
+    call_of_one(overload, only, found)
+}
+
+// A call of two operands.
+#[cycle(measure)]
+#[inline(always)]
+fn measure_pair(
+    alloc: Global,
+    operands: &[TypedExpr<'_>],
+    at: &Measuring<'_>,
+    overload: Overload,
+    left: Budget,
+) -> Result<Measured, Refusal>
+    requires two { length operands.now ≡ 2 }
+    ensures found { IfOk result (FindsCall at.now overload (exprs_view operands.now) left) }
+    ensures fault { IfErr result (MemoryOr (ExceedsCall at.now overload (exprs_view operands.now) left)) }
+{
+    let one = measure(alloc, &operands[0], at, left)?;
+    let other = measure(alloc, &operands[1], at, one.left)?;
+    call_of_two(alloc, overload, &one.size, &other.size, other.left)
+}
+
+// A call of any other number of operands, which no overload takes.
+#[cycle(measure)]
+fn measure_others(
+    alloc: Global,
+    operands: &[TypedExpr<'_>],
+    at: &Measuring<'_>,
+    left: Budget,
+) -> Result<Measured, Refusal>
+    ensures found { IfOk result (FindsOthers at.now (exprs_view operands.now) left) }
+    ensures fault { IfErr result (MemoryOr (ExceedsOthers at.now (exprs_view operands.now) left)) }
+{
+    let mut rest = left;
+    for operand in operands {
+        let found = measure(alloc, operand, at, rest)?;
+        rest = found.left;
     }
+    leaf(ValueSize::Flat, rest)
 }
 
 // A conditional of three operands.
@@ -233,12 +245,12 @@ fn measure_operands(
 fn measure_conditional(
     alloc: Global,
     operands: &[TypedExpr<'_>],
-    at: Measuring<'_>,
+    at: &Measuring<'_>,
     left: Budget,
 ) -> Result<Measured, Refusal>
     requires three { length operands.now ≡ 3 }
-    ensures found { IfOk result (FindsCall at.entry Conditional (exprs_view operands.now) left) }
-    ensures fault { IfErr result (MemoryOr (ExceedsCall at.entry Conditional (exprs_view operands.now) left)) }
+    ensures found { IfOk result (FindsCall at.now Conditional (exprs_view operands.now) left) }
+    ensures fault { IfErr result (MemoryOr (ExceedsCall at.now Conditional (exprs_view operands.now) left)) }
 {
     match operands {
         [condition, first, second] => {
@@ -268,13 +280,11 @@ fn measure_conditional(
 fn measure_loop(
     alloc: Global,
     parts: &TypedLoop<'_>,
-    at: Measuring<'_>,
+    at: &Measuring<'_>,
     left: Budget,
 ) -> Result<Measured, Refusal>
-    ensures found { (t : ValueType) → let l = at.entry.around.limits.now in
-        IfOk result (FindsLoop l (scope_in at.entry) t (parts_view parts.now) left) }
-    ensures fault { (t : ValueType) → let l = at.entry.around.limits.now in
-        IfErr result (MemoryOr (ExceedsLoop l (scope_in at.entry) t (parts_view parts.now) left)) }
+    ensures found { (t : ValueType) → IfOk result (FindsLoop at.now t (parts_view parts.now) left) }
+    ensures fault { (t : ValueType) → IfErr result (MemoryOr (ExceedsLoop at.now t (parts_view parts.now) left)) }
 {
     let locals = all_of(alloc, at)?;
     let around = Around {
@@ -292,28 +302,23 @@ fn measure_parts(
     around: Around<'_>,
     left: Budget,
 ) -> Result<Measured, Refusal>
-    ensures found { (t : ValueType) → let ss = scope_view around.entry.locals.now in
-        IfOk result (FindsLoop around.entry.limits.now ss t (parts_view parts.now) left) }
-    ensures fault { (t : ValueType) → let ss = scope_view around.entry.locals.now in
-        IfErr result (MemoryOr (ExceedsLoop around.entry.limits.now ss t (parts_view parts.now) left)) }
+    ensures found { (t : ValueType) → IfOk result (FindsParts around.entry t (parts_view parts.now) left) }
+    ensures fault { (t : ValueType) → IfErr result (MemoryOr (ExceedsParts around.entry t (parts_view parts.now) left)) }
 {
     let before = Measuring { around, inner: &[] };
-    let range = measure(alloc, &parts.range, before, left)?;
+    let range = measure(alloc, &parts.range, &before, left)?;
     let opened = pay(range.left, range.size.most())?;
-    let each = VariableSizes::of_range(parts.variables, &range.size)?;
+    let found = VariableSizes::of_range(parts.variables, &range.size)?;
+    let each = &found;
     let count = range.size.most();
     drop(range);
-    let init = measure(alloc, &parts.init, before, opened)?;
+    let init = measure(alloc, &parts.init, &before, opened)?;
     let begun = leaf(init.size, init.left)?;
-    let turns = Turns {
-        around,
-        each: &each,
-    };
+    let turns = Turns { around, each };
     let accumulator = measure_turns(alloc, parts, &turns, count, begun)?;
     let closed = pay(accumulator.left, 0)?;
     let inner = &[&accumulator.size];
-    let after = Measuring { around, inner };
-    measure(alloc, &parts.result, after, closed)
+    measure(alloc, &parts.result, &Measuring { around, inner }, closed)
 }
 
 // So many turns, until the accumulator's size stays the same: each of the others costs as the last one, unvisited.
@@ -325,10 +330,8 @@ fn measure_turns(
     count: u64,
     begun: Measured,
 ) -> Result<Measured, Refusal>
-    ensures found { let s = size_view begun.size in
-        IfOk result (FindsTurns (parts_view parts.now) turns.now count s begun.left) }
-    ensures fault { let s = size_view begun.size in
-        IfErr result (MemoryOr (ExceedsTurns (parts_view parts.now) turns.now count s begun.left)) }
+    ensures found { IfOk result (FindsTurns (parts_view parts.now) turns.now count begun) }
+    ensures fault { IfErr result (MemoryOr (ExceedsTurns (parts_view parts.now) turns.now count begun)) }
 {
     let mut accumulator = begun.size;
     let mut rest = begun.left;
@@ -358,10 +361,8 @@ fn measure_turn(
     accumulator: &ValueSize,
     left: Budget,
 ) -> Result<Measured, Refusal>
-    ensures found { let s = size_view accumulator.now in
-        IfOk result (FindsTurn (parts_view parts.now) turns.now s left) }
-    ensures fault { let s = size_view accumulator.now in
-        IfErr result (MemoryOr (ExceedsTurn (parts_view parts.now) turns.now s left)) }
+    ensures found { IfOk result (FindsTurn (parts_view parts.now) turns.now (size_view accumulator.now) left) }
+    ensures fault { IfErr result (MemoryOr (ExceedsTurn (parts_view parts.now) turns.now (size_view accumulator.now) left)) }
 {
     let rest = visit(left, parts.init.cel_type())?;
     let around = turns.around;
@@ -386,14 +387,11 @@ fn measure_body(
     accumulator: &ValueSize,
     left: Budget,
 ) -> Result<Measured, Refusal>
-    ensures found { let p = parts_view parts.now in let m = inside.entry in
-        IfOk result (Finds (join (size_view accumulator.now) (size_in m p.step))
-        (cost_in m p.condition + cost_in m p.step + 4) (visits_in m p.condition + visits_in m p.step) left) }
-    ensures fault { let p = parts_view parts.now in let m = inside.entry in IfErr result (MemoryOr
-        (Exceeds (cost_in m p.condition + cost_in m p.step + 4) (visits_in m p.condition + visits_in m p.step) left)) }
+    ensures found { IfOk result (FindsBody inside.entry (parts_view parts.now) (size_view accumulator.now) left) }
+    ensures fault { IfErr result (MemoryOr (ExceedsBody inside.entry (parts_view parts.now) left)) }
 {
-    let tested = measure(alloc, &parts.condition, inside, left)?;
-    let stepped = measure(alloc, &parts.step, inside, tested.left)?;
+    let tested = measure(alloc, &parts.condition, &inside, left)?;
+    let stepped = measure(alloc, &parts.step, &inside, tested.left)?;
     let left = pay(stepped.left, 3)?;
     let size = join(alloc, accumulator, &stepped.size)?;
     Ok(Measured { size, left })

@@ -12,8 +12,8 @@ use crate::size::ValueSize;
 use std::alloc::{AllocError, Global};
 
 /// The size of the local with so many others outside of it.
-pub(crate) fn find(at: Measuring<'_>, outside: u8) -> Result<ValueSize, AllocError>
-    ensures { IfOk result (λ size. size_view size ≡ known (local_at outside (scope_in at.entry))) }
+pub(crate) fn find(at: &Measuring<'_>, outside: u8) -> Result<ValueSize, AllocError>
+    ensures { IfOk result (λ size. size_view size ≡ known (local_at outside (scope_in at.now))) }
 {
     let place = outside as usize;
     let count = at.around.locals.len();
@@ -27,8 +27,11 @@ pub(crate) fn find(at: Measuring<'_>, outside: u8) -> Result<ValueSize, AllocErr
 }
 
 /// All locals in scope as one list.
-pub(crate) fn all_of<'s>(alloc: Global, at: Measuring<'s>) -> Result<Vec<&'s ValueSize>, AllocError>
-    ensures { IfOk result (λ all. scope_view all.items ≡ scope_in at.entry) }
+pub(crate) fn all_of<'s>(
+    alloc: Global,
+    at: &Measuring<'s>,
+) -> Result<Vec<&'s ValueSize>, AllocError>
+    ensures { IfOk result (λ all. scope_view all.items ≡ scope_in at.now) }
 {
     let count = at.around.locals.len().saturating_add(at.inner.len());
     let mut all = Vec::with_capacity(alloc, count)?;

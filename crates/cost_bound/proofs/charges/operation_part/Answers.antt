@@ -1,6 +1,8 @@
-use Rattle.std.proofs.Common.{ap, ◌∙◌}
+use Rattle.std.proofs.Common.{ap, refl, ◌∙◌}
 use Rattle.cost_bound.specs.private.Numbers.{capped}
+use Rattle.cost_bound.specs.private.SizeView.{size_view}
 use Rattle.cost_bound.proofs.Capped.{one_less}
+use Rattle.cost_bound.proofs.Counting.{no_count_two}
 use Rattle.cost_bound.proofs.charges.operation_part.Goals as goal
 
 pub returns-in-Compare : goal.returns-in-Compare
@@ -22,3 +24,6 @@ returns-in-InList c = λ ts. rw c.in-InList.is
     (c.sum-in-InList.ensures _ _ c.mass-in-InList.ensures
     (c.product-in-InList.ensures _ _ c.most-in-InList.ensures.capped c.mass-in-InList-2.ensures)
     ∙ ap capped (one_less _))
+
+pub returns-in-Size : goal.returns-in-Size
+returns-in-Size c = λ ts. rw (c.in-Size.is, no_count_two ts (size_view c.args.first.now) (size_view c.args.second.now)) refl

@@ -1,20 +1,20 @@
-use Rattle.std.proofs.Common.{false, true, ◌+◌, ◌-◌, ◌≡◌, ◌∙◌, ◌∷◌, ap, drop, length, refl, sym, arith}
+use Rattle.std.proofs.Common.{false, true, ◌+◌, ◌-◌, ◌≡◌, ◌∙◌, ◌∷◌, ap, drop, refl, sym, arith}
 use Rattle.std.proofs.lemmas.List.{drop_all, drop_more}
 use Rattle.std.proofs.lemmas.Result.{IfOk-weaker}
 use Rattle.cel_types.specs.Elaborated.{kinds}
 use Rattle.cel_types.specs.View.{expr_view}
 use Rattle.cel_types.specs.private.ExprViews.{exprs_view, parts_view}
 use Rattle.cel_value.specs.Types.{type_view}
-use Rattle.cel_costs.specs.Costs.{join_all, size_of, sizes_of}
+use Rattle.cel_costs.specs.Costs.{costs_of, join_all, size_of, sizes_of}
 use Rattle.cost_bound.specs.private.Measuring.{next_in, scope_in, turn_in, turn_visits_in}
 use Rattle.cost_bound.specs.private.ScopeView.{scope_view}
 use Rattle.cost_bound.specs.private.SizeView.{size_view}
-use Rattle.cost_bound.proofs.Calls.{call_costs}
+use Rattle.cost_bound.proofs.Calls.{others_of}
 use Rattle.cost_bound.proofs.Capped.{paid, paid_all, short, short_all}
 use Rattle.cost_bound.proofs.Choices.{three_of}
 use Rattle.cost_bound.proofs.ExprViews.{view_loop}
 use Rattle.cost_bound.proofs.JoinedParts.{join_flat, join_next}
-use Rattle.cost_bound.proofs.Operands.{call_found, call_short, all_measured, one_measured, two_measured}
+use Rattle.cost_bound.proofs.Operands.{both, one_found, one_short, sole, two_found, two_short}
 use Rattle.cost_bound.proofs.Places.{costs_from, place_before, visits_from}
 use Rattle.cost_bound.proofs.Steps.{as_many, cost_count, exit_charge, exit_more, last_more, loop_costs, loop_seen, loop_size}
 use Rattle.cost_bound.proofs.SizeViews.{view_flat}
@@ -38,8 +38,8 @@ pub measure_list-loop-item-preserved : goal.measure_list-loop-item-preserved
 measure_list-loop-item-preserved t c =
     let i = c.loop-item.item-index in
     let item = c.item-item.result in
-    let l = c.args.at.around.limits.now in
-    let scope = scope_in c.args.at in
+    let l = c.args.at.now.around.limits.now in
+    let scope = scope_in c.args.at.now in
     let before = c.loop-item.invariant in
     let found = c.in_ok-found.ensures.found in
     let rest : drop i c.args.items.now ≡ item ∷ drop (i + 1) c.args.items.now =
@@ -55,8 +55,8 @@ measure_list-loop-item-preserved t c =
 pub measure_list-returns-clause-found : goal.measure_list-returns-clause-found
 measure_list-returns-clause-found t c =
     let all = rw (drop_all c.loop-item.item-index c.args.items.now c.loop-item-test.false) at c.loop-item.invariant in
-    let counted = cost_count c.args.items.now c.args.at.around.limits.now (scope_in c.args.at) in
-    let many = as_many (exprs_view c.args.items.now) c.args.at.around.limits.now (scope_in c.args.at) in
+    let counted = cost_count c.args.items.now c.args.at.now.around.limits.now (scope_in c.args.at.now) in
+    let many = as_many (exprs_view c.args.items.now) c.args.at.now.around.limits.now (scope_in c.args.at.now) in
     let left = c.in_ok-left.ensures.found in (
       c.in_ok-size.ensures _ (sym many ∙ counted) (sym (join_flat (size_view c.loop-item.joined)) ∙ all.0),
       omega (arith, all.1, counted, left.0),
@@ -66,7 +66,7 @@ measure_list-returns-clause-found t c =
 pub measure_list-returns-in_err-left-clause-fault : goal.measure_list-returns-in_err-left-clause-fault
 measure_list-returns-in_err-left-clause-fault t c =
     let all = rw (drop_all c.loop-item.item-index c.args.items.now c.loop-item-test.false) at c.loop-item.invariant in
-    let counted = cost_count c.args.items.now c.args.at.around.limits.now (scope_in c.args.at) in
+    let counted = cost_count c.args.items.now c.args.at.now.around.limits.now (scope_in c.args.at.now) in
     let exit = c.from_residual-in_err-left in
     exit_charge _ _ _ _ c.args.left exit.result _ exit.ensures.1 c.in_err-left.ensures.fault
     (λ more. omega (arith, more, all.1, counted))
@@ -78,7 +78,7 @@ measure_map-loop-place-preserved t c =
     let front = place_before c.args.pairs.now c.loop-place.place c.index-pairs-place.result c.index-pairs-place.is
     c.loop-place-test.true before.0 in
     let more = c.in_ok-entries.ensures (sizes_of (exprs_view (drop c.loop-place.place c.args.pairs.now))
-    c.args.at.around.limits.now (scope_in c.args.at)) before.1 in
+    c.args.at.now.around.limits.now (scope_in c.args.at.now)) before.1 in
     let entries = rw found.0 at more in
     rw front (
       omega (arith, before.0),
@@ -89,8 +89,8 @@ measure_map-loop-place-preserved t c =
 
 pub measure_map-returns-in_err-found-clause-fault : goal.measure_map-returns-in_err-found-clause-fault
 measure_map-returns-in_err-found-clause-fault t c =
-    let l = c.args.at.around.limits.now in
-    let scope = scope_in c.args.at in
+    let l = c.args.at.now.around.limits.now in
+    let scope = scope_in c.args.at.now in
     let before = c.loop-place.invariant in
     let front = place_before c.args.pairs.now c.loop-place.place c.index-pairs-place.result c.index-pairs-place.is
     c.loop-place-test.true before.0 in
@@ -107,9 +107,9 @@ pub measure_map-returns-clause-found : goal.measure_map-returns-clause-found
 measure_map-returns-clause-found t c =
     let none : c.loop-place.place ≡ 0 = omega arith in
     let all = rw none at c.loop-place.invariant in
-    let counted = cost_count c.args.pairs.now c.args.at.around.limits.now (scope_in c.args.at) in
-    let many = as_many (exprs_view c.args.pairs.now) c.args.at.around.limits.now (scope_in c.args.at) in
-    let sizes = sizes_of (exprs_view c.args.pairs.now) c.args.at.around.limits.now (scope_in c.args.at) in
+    let counted = cost_count c.args.pairs.now c.args.at.now.around.limits.now (scope_in c.args.at.now) in
+    let many = as_many (exprs_view c.args.pairs.now) c.args.at.now.around.limits.now (scope_in c.args.at.now) in
+    let sizes = sizes_of (exprs_view c.args.pairs.now) c.args.at.now.around.limits.now (scope_in c.args.at.now) in
     let keys = c.key_count-keys.ensures sizes (sym many ∙ counted) in
     let left = c.in_ok-left.ensures.found in (
       c.in_ok-size.ensures sizes all.1 keys,
@@ -121,90 +121,84 @@ pub measure_map-returns-in_err-left-clause-fault : goal.measure_map-returns-in_e
 measure_map-returns-in_err-left-clause-fault t c =
     let none : c.loop-place.place ≡ 0 = omega arith in
     let all = rw none at c.loop-place.invariant in
-    let counted = cost_count c.args.pairs.now c.args.at.around.limits.now (scope_in c.args.at) in
-    let many = as_many (exprs_view c.args.pairs.now) c.args.at.around.limits.now (scope_in c.args.at) in
-    let sizes = sizes_of (exprs_view c.args.pairs.now) c.args.at.around.limits.now (scope_in c.args.at) in
+    let counted = cost_count c.args.pairs.now c.args.at.now.around.limits.now (scope_in c.args.at.now) in
+    let many = as_many (exprs_view c.args.pairs.now) c.args.at.now.around.limits.now (scope_in c.args.at.now) in
+    let sizes = sizes_of (exprs_view c.args.pairs.now) c.args.at.now.around.limits.now (scope_in c.args.at.now) in
     let keys = c.key_count-keys.ensures sizes (sym many ∙ counted) in
     let exit = c.from_residual-in_err-left in
     exit_charge _ _ _ _ c.args.left exit.result _ exit.ensures.1 c.in_err-left.ensures.fault
     (λ more. short_all _ _ _ _ all.2 (short _ _ _ (c.part.ensures sizes all.1 keys) more))
 
-pub measure_call-returns-clause-found : goal.measure_call-returns-clause-found
-measure_call-returns-clause-found t c =
-    let counted = cost_count c.args.operands.now c.args.at.around.limits.now (scope_in c.args.at) in
-    let whole = call_costs c.args.overload (kinds (exprs_view c.args.operands.now)) _ _
-    (as_many (exprs_view c.args.operands.now) c.args.at.around.limits.now (scope_in c.args.at))
+pub measure_call-returns-in-1-clause-found : goal.measure_call-returns-in-1-clause-found
+measure_call-returns-in-1-clause-found t c =
+    rw (sole c.args.operands.now c.index-operands-0.result c.in-1.is c.index-operands-0.is) c.measure_single.ensures.found
+
+pub measure_call-returns-in-1-clause-fault : goal.measure_call-returns-in-1-clause-fault
+measure_call-returns-in-1-clause-fault t c =
+    rw (sole c.args.operands.now c.index-operands-0.result c.in-1.is c.index-operands-0.is) c.measure_single.ensures.fault
+
+pub measure_call-returns-in_default-2-clause-found : goal.measure_call-returns-in_default-2-clause-found
+measure_call-returns-in_default-2-clause-found t c =
+    let l = c.args.at.now.around.limits.now in
+    let scope = scope_in c.args.at.now in
+    let es = exprs_view c.args.operands.now in
+    let counted = cost_count c.args.operands.now l scope in
+    let call = others_of c.args.overload (kinds es) (costs_of es l scope) (sizes_of es l scope) (as_many es l scope)
+    (λ one. absurd (omega (arith, one, counted))) (λ two. absurd (omega (arith, two, counted)))
     (λ is three. absurd (let g : false ≡ true = sym c.if-is_choice.false
     ∙ c.is_choice.ensures.1 (is, sym counted ∙ three) in cc)) in
-    rw whole c.measure_operands.ensures.found
+    rw (call.0, call.1) c.measure_others.ensures.found
 
-pub measure_call-returns-clause-fault : goal.measure_call-returns-clause-fault
-measure_call-returns-clause-fault t c =
-    let counted = cost_count c.args.operands.now c.args.at.around.limits.now (scope_in c.args.at) in
-    let whole = call_costs c.args.overload (kinds (exprs_view c.args.operands.now)) _ _
-    (as_many (exprs_view c.args.operands.now) c.args.at.around.limits.now (scope_in c.args.at))
+pub measure_call-returns-in_default-2-clause-fault : goal.measure_call-returns-in_default-2-clause-fault
+measure_call-returns-in_default-2-clause-fault t c =
+    let l = c.args.at.now.around.limits.now in
+    let scope = scope_in c.args.at.now in
+    let es = exprs_view c.args.operands.now in
+    let counted = cost_count c.args.operands.now l scope in
+    let call = others_of c.args.overload (kinds es) (costs_of es l scope) (sizes_of es l scope) (as_many es l scope)
+    (λ one. absurd (omega (arith, one, counted))) (λ two. absurd (omega (arith, two, counted)))
     (λ is three. absurd (let g : false ≡ true = sym c.if-is_choice.false
     ∙ c.is_choice.ensures.1 (is, sym counted ∙ three) in cc)) in
-    rw whole c.measure_operands.ensures.fault
+    rw call.1 c.measure_others.ensures.fault
 
-pub measure_operands-returns-in_ok-other-in-len2-clause-found : goal.measure_operands-returns-in_ok-other-in-len2-clause-found
-measure_operands-returns-in_ok-other-in-len2-clause-found t c =
-    let two : length c.args.operands.now ≡ 2 = omega arith in
-    let one = c.in_ok-one-in-len2.ensures.found in
-    let other = c.in_ok-other-in-len2.ensures.found in
-    let are = two_measured c.args.operands.now c.first-item.result c.second-item.result c.args.at.around.limits.now
-    (scope_in c.args.at) (size_view c.in_ok-one-in-len2.one.size) (size_view c.in_ok-other-in-len2.other.size)
-    c.args.left c.in_ok-one-in-len2.one.left c.in_ok-other-in-len2.other.left two c.first-item.is c.second-item.is
-    one.0 one.1 one.2 other.0 other.1 other.2 in
-    call_found c.args.overload _ _ _ _ _ _ c.call_of-in-len2.result are c.call_of-in-len2.ensures.found
+pub measure_single-returns-clause-found : goal.measure_single-returns-clause-found
+measure_single-returns-clause-found t c =
+    let found = c.in_ok-found.ensures.found in
+    one_found c.args.overload c.args.at.now.around.limits.now (scope_in c.args.at.now) c.args.left c.in_ok-found.found.left
+    c.call_of_one.result (expr_view c.args.only.now) (size_view c.in_ok-found.found.size) found.0 found.1 found.2
+    c.call_of_one.ensures.found
 
-pub measure_operands-returns-in_ok-other-in-len2-clause-fault : goal.measure_operands-returns-in_ok-other-in-len2-clause-fault
-measure_operands-returns-in_ok-other-in-len2-clause-fault t c =
-    let two : length c.args.operands.now ≡ 2 = omega arith in
-    let one = c.in_ok-one-in-len2.ensures.found in
-    let other = c.in_ok-other-in-len2.ensures.found in
-    let are = two_measured c.args.operands.now c.first-item.result c.second-item.result c.args.at.around.limits.now
-    (scope_in c.args.at) (size_view c.in_ok-one-in-len2.one.size) (size_view c.in_ok-other-in-len2.other.size)
-    c.args.left c.in_ok-one-in-len2.one.left c.in_ok-other-in-len2.other.left two c.first-item.is c.second-item.is
-    one.0 one.1 one.2 other.0 other.1 other.2 in
-    call_short c.args.overload _ _ _ _ _ _ c.call_of-in-len2.result are c.call_of-in-len2.ensures.fault
+pub measure_single-returns-clause-fault : goal.measure_single-returns-clause-fault
+measure_single-returns-clause-fault t c =
+    let found = c.in_ok-found.ensures.found in
+    one_short c.args.overload c.args.at.now.around.limits.now (scope_in c.args.at.now) c.args.left c.in_ok-found.found.left
+    c.call_of_one.result (expr_view c.args.only.now) (size_view c.in_ok-found.found.size) found.0 found.1 found.2
+    c.call_of_one.ensures.fault
 
-pub measure_operands-returns-in_ok-one-in-len1-clause-found : goal.measure_operands-returns-in_ok-one-in-len1-clause-found
-measure_operands-returns-in_ok-one-in-len1-clause-found t c =
-    let single : length c.args.operands.now ≡ 1 = omega arith in
-    let one = c.in_ok-one-in-len1.ensures.found in
-    let are = one_measured c.args.operands.now c.only-item.result c.args.at.around.limits.now (scope_in c.args.at)
-    (size_view c.in_ok-one-in-len1.one.size) c.args.left c.in_ok-one-in-len1.one.left single c.only-item.is
-    one.0 one.1 one.2 in
-    call_found c.args.overload _ _ _ _ _ _ c.call_of.result are c.call_of.ensures.found
+pub measure_pair-returns-clause-found : goal.measure_pair-returns-clause-found
+measure_pair-returns-clause-found t c =
+    let one = c.in_ok-one.ensures.found in
+    let other = c.in_ok-other.ensures.found in
+    rw (both c.args.operands.now c.index-operands-0.result c.index-operands-1.result c.requires.two c.index-operands-0.is
+    c.index-operands-1.is) (two_found c.args.overload c.args.at.now.around.limits.now (scope_in c.args.at.now) c.args.left
+    c.in_ok-other.other.left c.call_of_two.result (expr_view c.index-operands-0.result) (expr_view c.index-operands-1.result)
+    (size_view c.in_ok-one.one.size) (size_view c.in_ok-other.other.size) c.in_ok-one.one.left
+    one.0 one.1 one.2 other.0 other.1 other.2 (c.call_of_two.ensures.found _))
 
-pub measure_operands-returns-in_ok-one-in-len1-clause-fault : goal.measure_operands-returns-in_ok-one-in-len1-clause-fault
-measure_operands-returns-in_ok-one-in-len1-clause-fault t c =
-    let single : length c.args.operands.now ≡ 1 = omega arith in
-    let one = c.in_ok-one-in-len1.ensures.found in
-    let are = one_measured c.args.operands.now c.only-item.result c.args.at.around.limits.now (scope_in c.args.at)
-    (size_view c.in_ok-one-in-len1.one.size) c.args.left c.in_ok-one-in-len1.one.left single c.only-item.is
-    one.0 one.1 one.2 in
-    call_short c.args.overload _ _ _ _ _ _ c.call_of.result are c.call_of.ensures.fault
-
-pub measure_operands-returns-in_ok-found-in_default-clause-found : goal.measure_operands-returns-in_ok-found-in_default-clause-found
-measure_operands-returns-in_ok-found-in_default-clause-found t c =
-    let found = c.in_ok-found-in_default.ensures.found in
-    let are = all_measured c.args.operands.now c.args.at.around.limits.now (scope_in c.args.at) _ c.args.left
-    c.in_ok-found-in_default.found.left found.0 found.1 found.2 in
-    call_found c.args.overload _ _ _ _ _ _ c.call_of-in_default.result are (rw c.deref.ensures.value at c.call_of-in_default.ensures.found)
-
-pub measure_operands-returns-in_ok-found-in_default-clause-fault : goal.measure_operands-returns-in_ok-found-in_default-clause-fault
-measure_operands-returns-in_ok-found-in_default-clause-fault t c =
-    let found = c.in_ok-found-in_default.ensures.found in
-    let are = all_measured c.args.operands.now c.args.at.around.limits.now (scope_in c.args.at) _ c.args.left
-    c.in_ok-found-in_default.found.left found.0 found.1 found.2 in
-    call_short c.args.overload _ _ _ _ _ _ c.call_of-in_default.result are (rw c.deref.ensures.value at c.call_of-in_default.ensures.fault)
+pub measure_pair-returns-clause-fault : goal.measure_pair-returns-clause-fault
+measure_pair-returns-clause-fault t c =
+    let one = c.in_ok-one.ensures.found in
+    let other = c.in_ok-other.ensures.found in
+    rw (both c.args.operands.now c.index-operands-0.result c.index-operands-1.result c.requires.two c.index-operands-0.is
+    c.index-operands-1.is) (two_short c.args.overload c.args.at.now.around.limits.now (scope_in c.args.at.now) c.args.left
+    c.in_ok-other.other.left c.call_of_two.result (expr_view c.index-operands-0.result) (expr_view c.index-operands-1.result)
+    (size_view c.in_ok-one.one.size) (size_view c.in_ok-other.other.size) c.in_ok-one.one.left
+    one.0 one.1 one.2 other.0 other.1 other.2 (c.call_of_two.ensures.fault _))
 
 pub measure_conditional-returns-clause-found : goal.measure_conditional-returns-clause-found
 measure_conditional-returns-clause-found t c =
     let three = three_of c.args.operands.now c.condition-item.result c.first-item.result c.second-item.result
-    c.args.at.around.limits.now (scope_in c.args.at) c.requires.three c.condition-item.is c.first-item.is
+    c.args.at.now.around.limits.now (scope_in c.args.at.now) c.requires.three c.condition-item.is c.first-item.is
     c.second-item.is in
     let tested = c.in_ok-tested-in-len3.ensures.found in
     let before = c.in_ok-before-in-len3.ensures.found in
@@ -220,7 +214,7 @@ measure_conditional-returns-clause-found t c =
 pub measure_conditional-returns-in_err-left-in-len3-clause-fault : goal.measure_conditional-returns-in_err-left-in-len3-clause-fault
 measure_conditional-returns-in_err-left-in-len3-clause-fault t c =
     let three = three_of c.args.operands.now c.condition-item.result c.first-item.result c.second-item.result
-    c.args.at.around.limits.now (scope_in c.args.at) c.requires.three c.condition-item.is c.first-item.is
+    c.args.at.now.around.limits.now (scope_in c.args.at.now) c.requires.three c.condition-item.is c.first-item.is
     c.second-item.is in
     let tested = c.in_ok-tested-in-len3.ensures.found in
     let before = c.in_ok-before-in-len3.ensures.found in
@@ -287,12 +281,12 @@ measure_parts-returns-clause-found t c = λ kind.
     let sized = c.in_ok-begun.ensures.found.0 ∙ init.0 in
     let accumulator = c.in_ok-accumulator.ensures.found in
     let costs = loop_costs (parts_view c.args.parts.now) kind c.args.around.limits.now (scope_view c.args.around.locals.now)
-    _ _ _ _ _ range.0 c.most-count.ensures.most c.in_ok-each.ensures sized accumulator.0 in
+    _ _ _ _ _ range.0 c.most-count.ensures.most c.in_ok-found.ensures sized accumulator.0 in
     let seen = loop_seen (parts_view c.args.parts.now) c.args.around.limits.now (scope_view c.args.around.locals.now)
-    _ _ _ _ _ range.0 c.most-count.ensures.most c.in_ok-each.ensures sized accumulator.0 in
+    _ _ _ _ _ range.0 c.most-count.ensures.most c.in_ok-found.ensures sized accumulator.0 in
     IfOk-weaker c.measure-3.result _ _ (λ m h. (
       h.0 ∙ loop_size (parts_view c.args.parts.now) kind c.args.around.limits.now (scope_view c.args.around.locals.now)
-          _ _ _ _ _ range.0 c.most-count.ensures.most c.in_ok-each.ensures sized accumulator.0,
+          _ _ _ _ _ range.0 c.most-count.ensures.most c.in_ok-found.ensures sized accumulator.0,
       omega (
         arith,
         costs,
@@ -326,9 +320,9 @@ measure_parts-returns-in_err-accumulator-clause-fault t c = λ kind.
     let init = c.in_ok-init.ensures.found in
     let sized = c.in_ok-begun.ensures.found.0 ∙ init.0 in
     let costs = loop_costs (parts_view c.args.parts.now) kind c.args.around.limits.now (scope_view c.args.around.locals.now)
-    _ _ _ _ _ range.0 c.most-count.ensures.most c.in_ok-each.ensures sized refl in
+    _ _ _ _ _ range.0 c.most-count.ensures.most c.in_ok-found.ensures sized refl in
     let seen = loop_seen (parts_view c.args.parts.now) c.args.around.limits.now (scope_view c.args.around.locals.now)
-    _ _ _ _ _ range.0 c.most-count.ensures.most c.in_ok-each.ensures sized refl in
+    _ _ _ _ _ range.0 c.most-count.ensures.most c.in_ok-found.ensures sized refl in
     exit_more _ _ c.in_ok-begun.begun.left _ _ c.args.left exit.result _ exit.ensures.1 c.in_err-accumulator.ensures.fault
     (λ more. omega (
       arith,
@@ -359,7 +353,7 @@ measure_parts-returns-in_err-closed-clause-fault t c = λ kind.
     let sized = c.in_ok-begun.ensures.found.0 ∙ init.0 in
     let accumulator = c.in_ok-accumulator.ensures.found in
     let costs = loop_costs (parts_view c.args.parts.now) kind c.args.around.limits.now (scope_view c.args.around.locals.now)
-    _ _ _ _ _ range.0 c.most-count.ensures.most c.in_ok-each.ensures sized accumulator.0 in
+    _ _ _ _ _ range.0 c.most-count.ensures.most c.in_ok-found.ensures sized accumulator.0 in
     exit_charge _ _ _ _ c.args.left exit.result _ exit.ensures.1 c.in_err-closed.ensures.fault
     (λ more. omega (
       arith,
@@ -381,9 +375,9 @@ measure_parts-returns-clause-fault t c = λ kind.
     let sized = c.in_ok-begun.ensures.found.0 ∙ init.0 in
     let accumulator = c.in_ok-accumulator.ensures.found in
     let costs = loop_costs (parts_view c.args.parts.now) kind c.args.around.limits.now (scope_view c.args.around.locals.now)
-    _ _ _ _ _ range.0 c.most-count.ensures.most c.in_ok-each.ensures sized accumulator.0 in
+    _ _ _ _ _ range.0 c.most-count.ensures.most c.in_ok-found.ensures sized accumulator.0 in
     let seen = loop_seen (parts_view c.args.parts.now) c.args.around.limits.now (scope_view c.args.around.locals.now)
-    _ _ _ _ _ range.0 c.most-count.ensures.most c.in_ok-each.ensures sized accumulator.0 in
+    _ _ _ _ _ range.0 c.most-count.ensures.most c.in_ok-found.ensures sized accumulator.0 in
     last_more _ _ c.in_ok-closed.closed _ _ c.args.left c.measure-3.result
     (λ more. omega (
       arith,

@@ -1,21 +1,18 @@
-use Rattle.std.proofs.Common.{◌≡◌, ◌+◌, ◌≤◌, ◌++◌, drop, length}
+use Rattle.std.proofs.Common.{◌≡◌, ◌+◌, ◌≤◌, drop, length}
 use Rattle.cel_types.specs.private.ExprViews.{exprs_view, parts_view}
 use Rattle.cel_costs.specs.Costs.{costs_of, grown, join_all, sizes_of, total, turns_cost}
 use Rattle.cel_costs.specs.Sizes.{join}
 use Rattle.cel_costs.specs.Visits.{turns_visits, visits_of_each}
 use Rattle.cost_bound.specs.private.Measuring.{next_in, scope_in, turn_in, turn_visits_in}
-use Rattle.cost_bound.specs.private.SizeView.{IsEntries, size_view, sizes_view}
+use Rattle.cost_bound.specs.private.SizeView.{IsEntries, size_view}
 use Rattle.cost_bound.proofs.measure.+measure.Given as goal
 
-abbrev pub invariant-measure_each-loop-expr : goal.invariant-measure_each-loop-expr
-invariant-measure_each-loop-expr l =
-    (sizes_view l.sizes.items
-    ++ sizes_of (exprs_view (drop l.expr-index l.exprs)) l.at.around.limits.now (scope_in l.at)
-    ≡ sizes_of (exprs_view l.exprs) l.at.around.limits.now (scope_in l.at))
-    × (l.initial.rest.steps + total (costs_of (exprs_view (drop l.expr-index l.exprs)) l.at.around.limits.now (scope_in l.at))
-    ≡ total (costs_of (exprs_view l.exprs) l.at.around.limits.now (scope_in l.at)) + l.rest.steps)
-    × (l.initial.rest.visits + visits_of_each (exprs_view (drop l.expr-index l.exprs)) l.at.around.limits.now (scope_in l.at)
-    ≡ visits_of_each (exprs_view l.exprs) l.at.around.limits.now (scope_in l.at) + l.rest.visits)
+abbrev pub invariant-measure_others-loop-operand : goal.invariant-measure_others-loop-operand
+invariant-measure_others-loop-operand l =
+    (l.initial.rest.steps + total (costs_of (exprs_view (drop l.operand-index l.operands)) l.at.around.limits.now (scope_in l.at))
+    ≡ total (costs_of (exprs_view l.operands) l.at.around.limits.now (scope_in l.at)) + l.rest.steps)
+    × (l.initial.rest.visits + visits_of_each (exprs_view (drop l.operand-index l.operands)) l.at.around.limits.now (scope_in l.at)
+    ≡ visits_of_each (exprs_view l.operands) l.at.around.limits.now (scope_in l.at) + l.rest.visits)
 
 abbrev pub invariant-measure_list-loop-item : goal.invariant-measure_list-loop-item
 invariant-measure_list-loop-item l =
