@@ -1,5 +1,5 @@
 -- Facts as the record has them: an object as in `Facts`, in one text for each address. The order of the names is that of
--- their bytes (this project's own); dotted and colon texts are those of RFC 4291 section 2.2.
+-- their bytes (this project's own). Dotted texts are those of RFC 3986, section 3.2.2, colon texts of RFC 4291, section 2.2.
 use Rattle.std.specs.Prelude.{◌≡◌, ℕ, List, [], ◌∷◌, ◌++◌, IfSome, Option, Some, None, drop, map, option_map}
 use Rattle.std.specs.Int.{w32, w128, to_be_bytes}
 use Rattle.std.specs.Net.Text.{ipv4_text}
