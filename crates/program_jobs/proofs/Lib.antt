@@ -2,3 +2,4 @@ mod Ends
 mod BatchEnds
 mod SnapshotLemmas
 mod Streams
+mod ServerSettingsLemmas

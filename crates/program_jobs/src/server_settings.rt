@@ -1,4 +1,7 @@
-//! The settings of a server, and their texts. No contract describes the texts.
+//! The settings of a server, and their texts. No contract describes the texts that are printed.
+ghost use Rattle.std.specs.Prelude.{IfOk};
+ghost use Rattle.serde_json.specs.View.{view};
+ghost use Rattle.program_jobs.specs.ServerSettings.{IsSettingsText, MeansSettings};
 
 use crate::paths::clash_of;
 use crate::settings_faults::all_causes;
@@ -47,7 +50,9 @@ pub fn read_server_settings(
     alloc: Global,
     path: &str,
     text: &[u8],
-) -> Result<ServerSettings, ServerSettingsFault> {
+) -> Result<ServerSettings, ServerSettingsFault>
+    ensures { IfOk result (λ it. IsSettingsText text.now it.config it.settings) }
+{
     if text.is_empty() {
         return Err(ServerSettingsFault::Bad(String::from_str(alloc, "the file is empty")?));
     }
@@ -98,13 +103,17 @@ impl From<AllocError> for PartFault {
 }
 
 // All settings, each by itself allowed.
-fn parts_of(alloc: Global, value: &Value) -> Result<ServerSettings, PartFault> {
+fn parts_of(alloc: Global, value: &Value) -> Result<ServerSettings, PartFault>
+    ensures { IfOk result (λ it. MeansSettings (view value.now) it.config it.settings) }
+{
     let settings = match read_serve_config(alloc, value) {
         Ok(settings) => settings,
         Err(ServeConfigFault::Memory) => return Err(PartFault::Memory),
         Err(ServeConfigFault::Member { .. }) => return Err(PartFault::Bad),
     };
-    let proxy = value.get("proxy").unwrap_or(&Value::Null);
+    let Some(proxy) = value.get("proxy") else {
+        return Err(PartFault::Bad);
+    };
     let config = match config_at(alloc, proxy) {
         Ok(config) => config,
         Err(ConfigTextFault::Memory) => return Err(PartFault::Memory),

@@ -1,14 +1,20 @@
 -- A run of the program: the end of a server, the end of any job, and what mistaken words lead to.
-use Rattle.std.specs.Prelude.{◌≡◌, ◌⊎◌, ℕ, Bool, List, Option, IsTrue, string_bytes}
+use Rattle.std.specs.Prelude.{◌≡◌, ◌⊎◌, ℕ, Bool, true, List, Option, IsTrue, string_bytes}
 use Rattle.std.specs.declared.io.Error.{Error as IoError}
 use Rattle.clap.specs.Words.{Text, kind_of}
 use Rattle.clap.specs.declared.error.Error.{Error}
+use Rattle.ads.specs.Config.{ConfigValue}
 use Rattle.stream_pumps.specs.Rounds.{Link}
 use Rattle.command_line.specs.Words.{AreMistaken, IsJobOf}
 use Rattle.command_line.specs.declared.words.Job.{Job}
 use Rattle.command_line.specs.declared.words.Job.TheVariants.{Batch, Check, CheckConfig, Control, Judge, Proxy, Replay, Serve}
 use Rattle.program_jobs.specs.declared.job_fault.JobFault.{JobFault}
 use Rattle.program_jobs.specs.declared.job_fault.JobFault.TheVariants as faults
+use Rattle.program_jobs.specs.ServerSettings.{IsSettingsText}
+use Rattle.serve_config.specs.declared.config.ServeConfig.{ServeConfig}
+use Rattle.serve_core.specs.MappedHeadline.{SettingsHeadline}
+use Rattle.serve_core.specs.Turns.{ServerStep}
+use Rattle.serve_loop.specs.History.{is_told}
 use Rattle.program_jobs.specs.Jobs.{ChecksTo, EndsBatch, EndsConfig, EndsControl, EndsProxy, EndsReplay, EndsReport, IsUnread, JudgesTo, LeavesFault, Prints}
 
 module _ (holds : Text → Text → Type 0) (lacks : (Text × IoError) → Type 0) where
@@ -16,26 +22,38 @@ module _ (holds : Text → Text → Type 0) (lacks : (Text × IoError) → Type 
   abbrev pub LacksSettings : Text → JobFault → Type 0
   LacksSettings path fault = IsUnread holds lacks path fault ⊎ ((text : Text) × holds path text × (fault ≡ faults.Config))
 
--- the end of a server: standard output stays, and the status is 0, or 2 if it could not begin or go on. Or memory ran out
-abbrev pub EndsHost : Option Text → Option Text → Option Text → Option Text → ℕ → Type 0
-EndsHost out out_new errors errors_new status = (((status ≡ 0) ⊎ (status ≡ 2)) × (out_new ≡ out))
+-- a server could not begin, or could not go on: the status is 2, and standard output stays. Or memory ran out
+abbrev pub EndsUnserved : Option Text → Option Text → Option Text → Option Text → ℕ → Type 0
+EndsUnserved out out_new errors errors_new status = ((status ≡ 2) × (out_new ≡ out))
     ⊎ LeavesFault out out_new errors errors_new status faults.Memory
 
-module _ (holds : Text → Text → Type 0) (lacks : (Text × IoError) → Type 0)
+module _ (hosted : List ServerStep → Type 0) (c : ConfigValue) (settings : ServeConfig)
+    (out out_new errors errors_new : Option Text) (status : ℕ) where
+  -- the end of a server. By this configuration and these settings, the headline holds of all that happened on its wire. It
+  -- was told to end: the status is 0, and nothing is printed. Or it could not go on, or it could not begin
+  pub data EndsHost : Type 0 where
+    told : (wire : List ServerStep) → hosted wire → SettingsHeadline c settings wire → is_told wire ≡ true → status ≡ 0
+        → out_new ≡ out → errors_new ≡ errors → EndsHost
+    stopped : (wire : List ServerStep) → hosted wire → SettingsHeadline c settings wire
+        → EndsUnserved out out_new errors errors_new status → EndsHost
+    unbegun : EndsUnserved out out_new errors errors_new status → EndsHost
+
+module _ (holds : Text → Text → Type 0) (lacks : (Text × IoError) → Type 0) (hosted : List ServerStep → Type 0)
     (out out_new errors errors_new : Option Text) (status : ℕ) (path : Text) where
-  -- the file at this path holds a text, and its settings are printed, if that is asked for. Otherwise a server ran by
-  -- them, or could not, and standard output stays. Or the fault is printed, or memory ran out
+  -- the file at this path holds a text with these settings, and they are printed, if that is asked for. Otherwise a
+  -- server ran by them, or could not. Or the fault is printed, or memory ran out
   pub data EndsServe (check : Bool) : Type 0 where
-    meant : (settings text : Text) → holds path settings → IsTrue check → Prints out out_new errors errors_new status 0 text
+    meant : (text printed : Text) (c : ConfigValue) (settings : ServeConfig) → holds path text
+        → IsSettingsText text c settings → IsTrue check → Prints out out_new errors errors_new status 0 printed
         → EndsServe check
-    served : (settings : Text) → holds path settings → ¬ IsTrue check → EndsHost out out_new errors errors_new status
-        → EndsServe check
+    served : (text : Text) (c : ConfigValue) (settings : ServeConfig) → holds path text → IsSettingsText text c settings
+        → ¬ IsTrue check → EndsHost hosted c settings out out_new errors errors_new status → EndsServe check
     lacking : (fault : JobFault) → LacksSettings holds lacks path fault
         → LeavesFault out out_new errors errors_new status fault → EndsServe check
     memory : LeavesFault out out_new errors errors_new status faults.Memory → EndsServe check
 
 module _ (holds : Text → Text → Type 0) (lacks : (Text × IoError) → Type 0)
-    (connects accepts : Text → Option Link → Type 0) (input : Option Text)
+    (connects accepts : Text → Option Link → Type 0) (hosted : List ServerStep → Type 0) (input : Option Text)
     (out out_new errors errors_new : Option Text) (status : ℕ) where
   -- the end of a job
   abbrev pub EndsJob : Job → Type 0
@@ -47,7 +65,7 @@ module _ (holds : Text → Text → Type 0) (lacks : (Text × IoError) → Type 
   EndsJob (Replay words) =
       EndsReplay holds lacks out out_new errors errors_new status (string_bytes words.config) words.connection input
   EndsJob (Serve words) =
-      EndsServe holds lacks out out_new errors errors_new status (string_bytes words.config) words.check
+      EndsServe holds lacks hosted out out_new errors errors_new status (string_bytes words.config) words.check
   EndsJob (Control words) = EndsControl holds lacks connects accepts out out_new errors errors_new status words
   EndsJob (Proxy words) = EndsProxy holds lacks connects accepts out out_new errors errors_new status words
 

@@ -27,8 +27,8 @@ pub fn run<S: AsStr, F: Source + Sockets + Hosts, R: BufRead + Drop, W: Write, E
     out: &mut W,
     errors: &mut E,
 ) -> u8
-    ensures { Ran (F.holds files.now) (F.lacks files.now) (F.connects files.now) (F.accepts files.now) (R.remaining input)
-        (W.contents out.old) (W.contents out.new) (E.contents errors.old) (E.contents errors.new) result
+    ensures { Ran (F.holds files.now) (F.lacks files.now) (F.connects files.now) (F.accepts files.now) (F.hosted files.now)
+        (R.remaining input) (W.contents out.old) (W.contents out.new) (E.contents errors.old) (E.contents errors.new) result
         (map S.text words.now) }
 {
     match read_words(alloc, words) {
@@ -58,8 +58,8 @@ fn run_named<F: Source + Sockets + Hosts, R: BufRead + Drop, W: Write, E: Write>
     errors: &mut E,
 ) -> u8
     requires { IsRunnable job }
-    ensures { EndsJob (F.holds files.now) (F.lacks files.now) (F.connects files.now) (F.accepts files.now) (R.remaining input)
-        (W.contents out.old) (W.contents out.new) (E.contents errors.old) (E.contents errors.new) result job }
+    ensures { EndsJob (F.holds files.now) (F.lacks files.now) (F.connects files.now) (F.accepts files.now) (F.hosted files.now)
+        (R.remaining input) (W.contents out.old) (W.contents out.new) (E.contents errors.old) (E.contents errors.new) result job }
 {
     match job {
         Job::Check(words) => run_check(alloc, &words, files, out, errors),

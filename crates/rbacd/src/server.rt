@@ -1,7 +1,12 @@
 //! The job that serves connections until it is to end.
-ghost use Rattle.std.specs.Prelude.{ℕ, List, IfErr, IfOk, string_bytes};
-ghost use Rattle.rbacd.specs.Run.{EndsHost, EndsServe, LacksSettings};
+ghost use Rattle.std.specs.Prelude.{◌≡◌, ℕ, List, None, true, IfErr, IfOk, string_bytes};
+ghost use Rattle.rbacd.specs.Run.{EndsHost, EndsServe, EndsUnserved, LacksSettings};
+ghost use Rattle.program_jobs.specs.ServerSettings.{IsSettingsText};
 ghost use Rattle.program_jobs.specs.private.Stopping.{MemoryOrStop};
+ghost use Rattle.serve_core.specs.MappedHeadline.{SettingsHeadline};
+ghost use Rattle.serve_core.specs.Turns.{ServerStep};
+ghost use Rattle.serve_loop.specs.History.{is_told};
+ghost use Rattle.serve_loop.specs.Law.{wire_of};
 
 use command_line::ServeWords;
 use program_jobs::{
@@ -9,19 +14,34 @@ use program_jobs::{
     read_file, read_server_settings, server_settings_text, show, write_error,
 };
 use rbac_judge::Notes;
-use serve_host::{HostFault, host};
+use serve_host::{EndedServer, HostFault, host};
 use std::alloc::{AllocError, Global};
 use std::io::Write;
 
 /// What can run a server.
 pub trait Hosts {
-    /// Serves by these settings until the server is to end. Fails if it cannot begin, or cannot go on.
-    fn host(&self, alloc: Global, server_settings: ServerSettings) -> Result<(), HostFault>;
+    /// This is all that happened on the wire of a server that ran.
+    ghost hosted: { Self → List ServerStep → Type 0 };
+
+    /// Serves by these settings until the server is to end. Fails if it cannot begin.
+    fn host(&self, alloc: Global, server_settings: ServerSettings) -> Result<EndedServer, HostFault>
+        ensures hosted { IfOk result (λ ended. hosted self.now (wire_of ended.trace.turns)) }
+        ensures headline { IfOk result (λ ended. SettingsHeadline server_settings.config server_settings.settings
+            (wire_of ended.trace.turns)) }
+        ensures told { IfOk result (λ ended. ended.fault ≡ None → is_told (wire_of ended.trace.turns) ≡ true) };
 }
 
-/// The server of the system.
+/// The server of the system. Proofs assume nothing about what its sockets gave and took.
 impl Hosts for HostRuntime {
-    fn host(&self, alloc: Global, server_settings: ServerSettings) -> Result<(), HostFault> {
+    ghost use Rattle.std.specs.Prelude.{⊤};
+
+    ghost hosted = { λ _ _. ⊤ };
+
+    fn host(
+        &self,
+        alloc: Global,
+        server_settings: ServerSettings,
+    ) -> Result<EndedServer, HostFault> {
         host(
             alloc,
             self,
@@ -40,8 +60,9 @@ pub(crate) fn run_serve<F: Source + Hosts, W: Write, E: Write>(
     out: &mut W,
     errors: &mut E,
 ) -> u8
-    ensures { EndsServe (F.holds system.now) (F.lacks system.now) (W.contents out.old) (W.contents out.new)
-        (E.contents errors.old) (E.contents errors.new) result (string_bytes words.now.config) words.now.check }
+    ensures { EndsServe (F.holds system.now) (F.lacks system.now) (F.hosted system.now) (W.contents out.old)
+        (W.contents out.new) (E.contents errors.old) (E.contents errors.new) result (string_bytes words.now.config)
+        words.now.check }
 {
     let mut notes = Notes::new(alloc);
     match server_settings_in(alloc, system, words.config.as_str(), &mut notes) {
@@ -66,12 +87,30 @@ fn served<F: Hosts, W: Write, E: Write>(
     out: &mut W,
     errors: &mut E,
 ) -> u8
-    ensures { EndsHost (W.contents out.old) (W.contents out.new) (E.contents errors.old) (E.contents errors.new) result }
+    ensures { EndsHost (F.hosted system.now) server_settings.config server_settings.settings (W.contents out.old)
+        (W.contents out.new) (E.contents errors.old) (E.contents errors.new) result }
 {
-    let fault = match system.host(alloc, server_settings) {
-        Ok(()) => return 0,
-        Err(HostFault::Memory(_)) => return end_by_memory(out, errors),
-        Err(fault) => fault,
+    match system.host(alloc, server_settings) {
+        Ok(ended) => match ended.into_fault() {
+            None => 0,
+            Some(fault) => end_by_host(alloc, fault, out, errors),
+        },
+        Err(fault) => end_by_host(alloc, fault, out, errors),
+    }
+}
+
+/// Prints why a server cannot begin, or cannot go on. Returns the status.
+fn end_by_host<W: Write, E: Write>(
+    alloc: Global,
+    fault: HostFault,
+    out: &mut W,
+    errors: &mut E,
+) -> u8
+    ensures { EndsUnserved (W.contents out.old) (W.contents out.new) (E.contents errors.old) (E.contents errors.new) result }
+{
+    let fault = match fault {
+        HostFault::Memory(_) => return end_by_memory(out, errors),
+        fault => fault,
     };
     match format!(in alloc; "{fault}\n") {
         Ok(text) => write_error(text.as_bytes(), MISTAKE, errors),
@@ -86,7 +125,8 @@ fn server_settings_in<F: Source>(
     path: &str,
     notes: &mut Notes,
 ) -> Result<ServerSettings, JobFault>
-    ensures found { IfOk result (λ server_settings. (text : List ℕ) × F.holds files.now path.now text) }
+    ensures found { IfOk result (λ it. (text : List ℕ) × F.holds files.now path.now text
+        × IsSettingsText text it.config it.settings) }
     ensures fault { IfErr result (MemoryOrStop
         (LacksSettings (F.holds files.now) (F.lacks files.now) path.now)) }
 {

@@ -5,7 +5,8 @@ mod OtherProtocolLemmas
 mod Clients
 mod Reading
 mod FrontRuns
-mod MappedWire
+mod Setups
+pub mod MappedWire
 mod FrontSteps
 mod WrittenHeads
 mod MappedAsks

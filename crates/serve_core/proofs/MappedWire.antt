@@ -11,7 +11,7 @@ use Rattle.serve_core.specs.ClientRequests.{RuleValue, rule_view}
 use Rattle.serve_core.specs.Fronts.{FrontsRun, FrontsValue, fronts_view}
 use Rattle.serve_core.specs.Headline.{core_calls}
 use Rattle.serve_core.specs.MappedHeadline.{MappedHeadline, ServedHeadline}
-use Rattle.serve_core.specs.Served.{served_turns}
+use Rattle.serve_core.specs.Served.{served_setup, served_turns}
 use Rattle.serve_core.specs.Turns.{IsDriven, ServerEvent, ServerStep, ServerTurn, worker_turns}
 use Rattle.serve_core.specs.declared.served.Served.{Served}
 use Rattle.serve_core.specs.declared.served.Served.TheVariants.{AsSent, Mapped}
@@ -35,7 +35,7 @@ mapped_headline rule wire turns seen fronts belong run driven =
     }
 
 pub served_headline : (service : Served) (wire : List ServerStep) (seen : List ServerEvent)
-    → Belong wire (served_turns service) seen → ∥ ServedHeadline service wire ∥₁
+    → Belong wire (served_turns service) seen → ∥ ServedHeadline (served_setup service) wire ∥₁
 served_headline (AsSent service) wire seen belong =
     ∥∥₁_map service.driven (wire_headline wire service.trace.turns seen (worker_view service.worker) belong)
 served_headline (Mapped service) wire seen belong =

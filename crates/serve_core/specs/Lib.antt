@@ -6,5 +6,6 @@ pub mod Rules
 pub mod ClientRequests
 pub mod ClientHeads
 pub mod Fronts
+pub mod Setups
 pub mod Served
 pub mod MappedHeadline

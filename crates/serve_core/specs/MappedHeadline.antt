@@ -1,19 +1,18 @@
--- The headline of a server behind front proxies (this project's own).
-use Rattle.std.specs.Prelude.{◌≡◌, ◌<◌, ℕ, List, ◌++◌, length}
+-- The headline of a server behind front proxies, and of a server by its settings (this project's own).
+use Rattle.std.specs.Prelude.{◌≡◌, ◌<◌, ℕ, List, ◌++◌, Option, Some, None}
 use Rattle.ads.specs.Config.{ConfigValue}
 use Rattle.proxy_core.specs.Headline.{Headline}
 use Rattle.proxy_core.specs.Step.{events_of, outputs_of}
 use Rattle.proxy_core.specs.Worker.{calls_at}
-use Rattle.rbac_serve.specs.Workers.{worker_view}
+use Rattle.serve_config.specs.declared.config.ServeConfig.{ServeConfig}
 use Rattle.serve_loop.specs.declared.stream.Stream.{Stream}
 use Rattle.serve_loop.specs.History.{IsOrderly, answered_at, sent_at, waiting_at}
 use Rattle.serve_loop.specs.Law.{wire_of}
-use Rattle.serve_core.specs.ClientRequests.{RuleValue, rule_view}
+use Rattle.serve_core.specs.ClientRequests.{RuleValue}
 use Rattle.serve_core.specs.Fronts.{FrontsRun, FrontsValue}
 use Rattle.serve_core.specs.Headline.{ServerHeadline, core_calls}
+use Rattle.serve_core.specs.Setups.{IsSetupBy, SetupValue}
 use Rattle.serve_core.specs.Turns.{ServerStep, ServerTurn}
-use Rattle.serve_core.specs.declared.served.Served.{Served}
-use Rattle.serve_core.specs.declared.served.Served.TheVariants.{AsSent, Mapped}
 
 -- the headline of a server by this rule, with this configuration and so many places, of all that happened on its wire
 pub record MappedHeadline (rule : RuleValue) (c : ConfigValue) (n : ℕ) (wire : List ServerStep) : Type 0 where
@@ -33,9 +32,17 @@ pub record MappedHeadline (rule : RuleValue) (c : ConfigValue) (n : ℕ) (wire :
   pub each : (k : ℕ) → k < n → Headline c (events_of (calls_at k (core_calls fronts.core.turns)))
       (outputs_of (calls_at k (core_calls fronts.core.turns)))
 
--- the headline of what a server serves
-abbrev pub ServedHeadline : Served → List ServerStep → Type 0
-ServedHeadline (AsSent service) wire = let w = worker_view service.worker in
-    ServerHeadline w.core.client.config (length w.core.conns) wire
-ServedHeadline (Mapped service) wire = let w = worker_view service.fronts.core.worker in
-    MappedHeadline (rule_view service.fronts.rule) w.core.client.config (length w.core.conns) wire
+-- the headline of a server by this rule, or by none
+abbrev pub HeadlineBy : Option RuleValue → ConfigValue → ℕ → List ServerStep → Type 0
+HeadlineBy None c n wire = ServerHeadline c n wire
+HeadlineBy (Some rule) c n wire = MappedHeadline rule c n wire
+
+-- the headline of a server with this setup
+abbrev pub ServedHeadline : SetupValue → List ServerStep → Type 0
+ServedHeadline setup wire = HeadlineBy setup.rule setup.config setup.places wire
+
+-- the headline of a server with this configuration and these settings
+pub record SettingsHeadline (c : ConfigValue) (settings : ServeConfig) (wire : List ServerStep) : Type 0 where
+  pub setup : SetupValue
+  pub set_up : IsSetupBy c settings setup
+  pub headline : ∥ ServedHeadline setup wire ∥₁

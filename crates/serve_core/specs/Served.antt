@@ -1,6 +1,9 @@
--- The turns of what a server serves (this project's own).
-use Rattle.std.specs.Prelude.{ℕ, List}
+-- The turns of what a server serves, and its setup (this project's own).
+use Rattle.std.specs.Prelude.{ℕ, List, Some, None}
+use Rattle.rbac_serve.specs.Workers.{worker_view}
 use Rattle.serve_loop.specs.declared.stream.Stream.{Stream}
+use Rattle.serve_core.specs.ClientRequests.{rule_view}
+use Rattle.serve_core.specs.Setups.{SetupValue, setup_of}
 use Rattle.serve_core.specs.Turns.{ServerTurn, room_for}
 use Rattle.serve_core.specs.declared.served.Served.{Served}
 use Rattle.serve_core.specs.declared.served.Served.TheVariants.{AsSent, Mapped}
@@ -20,3 +23,8 @@ served_takes (Mapped service) stream = room_for stream service.fronts.core.room
 abbrev pub served_core : Served → WorkerService
 served_core (AsSent service) = service
 served_core (Mapped service) = service.fronts.core
+
+-- its setup
+abbrev pub served_setup : Served → SetupValue
+served_setup (AsSent service) = setup_of (worker_view service.worker) None
+served_setup (Mapped service) = setup_of (worker_view service.fronts.core.worker) (Some (rule_view service.fronts.rule))

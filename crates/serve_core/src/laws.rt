@@ -19,6 +19,7 @@ ghost use Rattle.serve_core.specs.ClientRequests.{parts_of_head};
 ghost use Rattle.serve_core.specs.Headline.{ServerHeadline};
 ghost use Rattle.serve_core.specs.MappedHeadline.{ServedHeadline};
 ghost use Rattle.serve_core.specs.Rules.{IsUnjudged};
+ghost use Rattle.serve_core.specs.Served.{served_setup};
 ghost use Rattle.serve_core.specs.Turns.{IsDriven, ServerEvent, ServerStep, ServerTurn};
 ghost use Rattle.serve_core.specs.declared.unjudged.Unjudged.{Unjudged};
 
@@ -47,7 +48,7 @@ pub fn a_server_has_the_headline<N: Network<Conn>, O: Observer<Conn, WorkerServi
 pub fn a_served_wire_has_the_headline<'m, N: Network<Conn>, O: Observer<Conn, Served<'m>>>(
     server: &Server<Conn, N, Served<'m>, O>,
 )
-    ensures { ∥ ServedHeadline server.now.board.parties.service (N.wire server.now.board.parties.network) ∥₁ }
+    ensures { ∥ ServedHeadline (served_setup server.now.board.parties.service) (N.wire server.now.board.parties.network) ∥₁ }
 {}
 
 /// A request that is not judged is answered 400, without a verdict.

@@ -2,6 +2,8 @@
 ghost use Rattle.std.specs.Prelude.{◌≡◌, [], ◌∷◌, IfOk};
 ghost use Rattle.serve_loop.specs.Events.{event_view};
 ghost use Rattle.serve_loop.specs.History.{answered, took};
+ghost use Rattle.rbac_serve.specs.Tables.{new_worker};
+ghost use Rattle.rbac_serve.specs.Workers.{worker_view};
 ghost use Rattle.serve_core.specs.ClientRequests.{rule_view};
 ghost use Rattle.serve_core.specs.Fronts.{AreMatched, FrontsRun, WaitsIn, fronts_view};
 ghost use Rattle.serve_core.specs.Turns.{room_for};
@@ -34,7 +36,9 @@ impl<'m> MappedService<'m> {
         places: usize,
         rule: MappingRule<'m>,
     ) -> Result<MappedService<'m>, AllocError>
-        ensures { IfOk result (λ s. (s.trace.turns ≡ []) × (rule_view s.fronts.rule ≡ rule_view rule.entry)) }
+        ensures turns { IfOk result (λ s. s.trace.turns ≡ []) }
+        ensures core { IfOk result (λ s. worker_view s.fronts.core.worker ≡ new_worker places config.now) }
+        ensures rule { IfOk result (λ s. rule_view s.fronts.rule ≡ rule_view rule.entry) }
     {
         let core = WorkerService::new(alloc, config, places)?;
         let connections = free_places(alloc, places)?;
@@ -79,7 +83,14 @@ fn with_answer(
 }
 
 impl Service<Conn> for MappedService<'_> {
+    ghost use Rattle.std.specs.Prelude.{Some};
+    ghost use Rattle.serve_core.specs.Setups.{SetupValue, setup_of};
+
     ghost turns = { λ s. s.trace.turns };
+
+    ghost Setup = { SetupValue };
+
+    ghost setup = { λ s. setup_of (worker_view s.fronts.core.worker) (Some (rule_view s.fronts.rule)) };
 
     ghost takes = { λ s stream. room_for stream s.fronts.core.room };
 

@@ -1,9 +1,9 @@
 //! How the requests of a front proxy give those of its clients.
-ghost use Rattle.std.specs.Prelude.{◌≡◌, IfOk, MatchOption, MatchResult};
+ghost use Rattle.std.specs.Prelude.{◌≡◌, IfOk, MatchOption, MatchResult, option_map};
 ghost use Rattle.head_map.specs.Mapped.{mapping_view, parts_view};
 ghost use Rattle.head_map.specs.Paths.{HasTargetFault};
 ghost use Rattle.serve_config.specs.declared.config.Paths.TheVariants.{Strict};
-ghost use Rattle.serve_core.specs.Rules.{IsJudgedClient, IsJudgedTarget, IsUnjudged, JudgesAsSent};
+ghost use Rattle.serve_core.specs.Rules.{IsJudgedClient, IsJudgedTarget, IsUnjudged};
 
 use crate::unjudged::{Unjudged, unjudged_fields, unjudged_path};
 use head_map::{Mapping, Parts, PathFault, mapped_of, path_is_strict};
@@ -20,11 +20,12 @@ pub struct MappingRule<'m> {
 }
 
 impl<'m> MappingRule<'m> {
+    ghost use Rattle.serve_core.specs.ClientRequests.{rule_view};
+    ghost use Rattle.serve_core.specs.Setups.{IsRuleBy};
+
     /// The rule of these settings; none if each request is judged as it was sent.
     pub fn of(settings: &'m ServeConfig) -> Option<MappingRule<'m>>
-        ensures { let m = mapping_view settings.now.mapping in MatchOption result (JudgesAsSent m settings.now.paths)
-            (λ rule. (mapping_view rule.mapping.now ≡ m) × (rule.paths ≡ settings.now.paths)
-            × ¬ JudgesAsSent m settings.now.paths) }
+        ensures { IsRuleBy (mapping_view settings.now.mapping) settings.now.paths (option_map rule_view result) }
     {
         let mapping = &settings.mapping;
         let paths = settings.paths;

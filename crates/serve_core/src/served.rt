@@ -1,8 +1,10 @@
 //! What a server serves.
-ghost use Rattle.std.specs.Prelude.{◌≡◌, [], IfOk};
+ghost use Rattle.std.specs.Prelude.{◌≡◌, [], IfOk, option_map};
 ghost use Rattle.ads.specs.Ends.{client_view};
 ghost use Rattle.rbac_serve.specs.Workers.{worker_view};
-ghost use Rattle.serve_core.specs.Served.{served_core, served_takes, served_turns};
+ghost use Rattle.serve_core.specs.ClientRequests.{rule_view};
+ghost use Rattle.serve_core.specs.Served.{served_core, served_setup, served_takes, served_turns};
+ghost use Rattle.serve_core.specs.Setups.{SetupValue};
 
 use crate::mapped_service::MappedService;
 use crate::rule::MappingRule;
@@ -30,11 +32,22 @@ impl<'m> Served<'m> {
         places: usize,
         rule: Option<MappingRule<'m>>,
     ) -> Result<Served<'m>, AllocError>
-        ensures { IfOk result (λ s. served_turns s ≡ []) }
+        ensures turns { IfOk result (λ s. served_turns s ≡ []) }
+        ensures setup { IfOk result (λ s. served_setup s ≡ record {
+          config = config.now;
+          places = places;
+          rule = option_map rule_view rule.entry;
+        }) }
     {
         match rule {
-            Some(rule) => Ok(Served::Mapped(MappedService::new(alloc, config, places, rule)?)),
-            None => Ok(Served::AsSent(WorkerService::new(alloc, config, places)?)),
+            Some(rule) => {
+                let mapped = MappedService::new(alloc, config, places, rule)?;
+                Ok(Served::Mapped(mapped))
+            }
+            None => {
+                let core = WorkerService::new(alloc, config, places)?;
+                Ok(Served::AsSent(core))
+            }
         }
     }
 
@@ -58,6 +71,10 @@ impl<'m> Served<'m> {
 
 impl Service<Conn> for Served<'_> {
     ghost turns = { served_turns };
+
+    ghost Setup = { SetupValue };
+
+    ghost setup = { served_setup };
 
     ghost takes = { served_takes };
 

@@ -1,9 +1,10 @@
 //! The turns of a worker that is the service of a loop.
-ghost use Rattle.std.specs.Prelude.{◌≡◌, ◌≤◌, length, take, IfOk, MatchResult};
+ghost use Rattle.std.specs.Prelude.{◌≡◌, ◌≤◌, length, take, IfOk, MatchResult, None};
 ghost use Rattle.rbac_serve.specs.Workers.{worker_view};
 ghost use Rattle.serve_loop.specs.Events.{event_view};
 ghost use Rattle.serve_loop.specs.History.{Fits, answered, gave, no_memory, took, waiting_at};
 ghost use Rattle.serve_core.specs.Cores.{Tells, Turns, core_view};
+ghost use Rattle.serve_core.specs.Setups.{SetupValue, setup_of};
 ghost use Rattle.serve_core.specs.Turns.{added_by, kept_before, room_for};
 
 use crate::events::{added, happen, sent_of, unsent_of, waiting_before};
@@ -75,6 +76,10 @@ impl WorkerService {
 
 impl Service<Conn> for WorkerService {
     ghost turns = { λ s. s.trace.turns };
+
+    ghost Setup = { SetupValue };
+
+    ghost setup = { λ s. setup_of (worker_view s.worker) None };
 
     ghost takes = { λ s stream. room_for stream s.room };
 

@@ -1,2 +1,3 @@
 mod PieceLemmas
 mod Requests
+mod ServingLemmas

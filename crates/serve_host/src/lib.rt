@@ -5,12 +5,15 @@ mod admin_port;
 mod admin_stream;
 mod errors;
 mod facts;
+mod fault;
 mod loop_settings;
 mod network;
 mod piece;
 mod process;
 mod request_reader;
+mod serving;
 mod streams;
 mod upkeep;
 
-pub use process::{HostFault, host};
+pub use fault::HostFault;
+pub use process::{EndedServer, host};

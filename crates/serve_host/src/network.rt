@@ -62,6 +62,13 @@ impl<'r, R: Net + Files + Clock + Input> HostNetwork<'r, R> {
         })
     }
 
+    /// What happened on the wire. All sockets are closed.
+    pub(crate) fn into_trace(self) -> Trace<Conn>
+        ensures { result.turns ≡ self.entry.trace.turns }
+    {
+        self.trace
+    }
+
     /// Gives a turn to the connections of the admin port. Times are in milliseconds since a fixed time.
     pub(crate) fn serve_admin(
         &mut self,

@@ -1,60 +1,57 @@
 //! Runs a server until it is to end.
-ghost use Rattle.std.specs.Prelude.{◌≡◌, [], true, IfOk, OnOk};
+ghost use Rattle.std.specs.Prelude.{◌≡◌, [], None, true, IfOk, OnOk};
 ghost use Rattle.serve_loop.specs.History.{is_told};
-ghost use Rattle.serve_loop.specs.Law.{Belong};
-ghost use Rattle.serve_core.specs.Served.{served_turns};
+ghost use Rattle.serve_loop.specs.Law.{wire_of};
+ghost use Rattle.serve_core.specs.MappedHeadline.{SettingsHeadline};
 
 use crate::admin_port::AdminPort;
 use crate::errors::{errors_of, taken_streams};
-use crate::loop_settings::loop_settings;
+use crate::fault::HostFault;
 use crate::network::HostNetwork;
-use crate::upkeep::{HostUpkeep, UsesMemory};
+use crate::serving::{Surroundings, UsedNetwork, serve_by};
+use crate::upkeep::HostUpkeep;
 use ads::Config;
 use attributes::Conn;
 use serve_admin::{Admin, FilterStatus};
 use serve_config::{Record, ServeConfig};
-use serve_core::{MappingRule, Served};
 use serve_log::{LogFile, RecordSettings, Recorder};
-use serve_loop::{Board, Network, Observer, Server, Service, Upkeep};
-use serve_net::{OpenFault, Sockets};
+use serve_net::Sockets;
 use serve_observe::{Accesses, Logs, Observers, unix_millis};
+use serve_trace::Trace;
 use std::alloc::{AllocError, Global};
 use std::hash::RandomState;
-use std::io::{self, ErrorKind};
-use thiserror::Error;
 
-/// Why a server cannot begin, or cannot go on.
-#[derive(Debug, Drop, Error)]
-pub enum HostFault {
-    /// An address, or the end of standard input.
-    #[error(transparent)]
-    Open(#[from] OpenFault),
-    /// A log or a record cannot be opened.
-    #[error("cannot write {path}: {error}")]
-    Log { path: String, error: io::Error },
-    /// The system does not let it wait.
-    #[error("cannot go on: {0}")]
-    Wait(io::Error),
-    /// Memory ran out at the beginning, or at the admin port.
-    #[error("memory")]
-    Memory(AllocError),
+/// A server that ended.
+#[derive(Drop)]
+pub struct EndedServer {
+    // why it could not go on; none if it was told to end
+    fault: Option<HostFault>,
+    // what happened on the wire of its network, for proofs alone
+    trace: Trace<Conn>,
 }
 
-impl From<AllocError> for HostFault {
-    fn from(refused: AllocError) -> HostFault {
-        HostFault::Memory(refused)
+impl EndedServer {
+    /// Why it could not go on; none if it was told to end.
+    pub fn into_fault(self) -> Option<HostFault>
+        ensures { result ≡ self.fault }
+    {
+        self.fault
     }
 }
 
 /// Serves with this configuration of the proxy and by these settings until the server is to end, and then until its
-/// connections have ended, for at most the drain time. These facts are known of every connection.
+/// connections have ended, for at most the drain time. These facts are known of every connection. The headline by these
+/// settings holds of all that happened on the wire. An error says why it could not begin.
 pub fn host(
     alloc: Global,
     rt: &HostRuntime,
     config: Config,
     conn: Conn,
     settings: ServeConfig,
-) -> Result<(), HostFault> {
+) -> Result<EndedServer, HostFault>
+    ensures headline { IfOk result (λ ended. SettingsHeadline config settings (wire_of ended.trace.turns)) }
+    ensures told { IfOk result (λ ended. ended.fault ≡ None → is_told (wire_of ended.trace.turns) ≡ true) }
+{
     host_by(alloc, rt, &config, conn, &settings)
 }
 
@@ -65,19 +62,40 @@ fn host_by<'m, 'r>(
     config: &Config,
     conn: Conn,
     settings: &'m ServeConfig,
-) -> Result<(), HostFault> {
+) -> Result<EndedServer, HostFault>
+    ensures headline { IfOk result (λ ended. SettingsHeadline config.now settings.now (wire_of ended.trace.turns)) }
+    ensures told { IfOk result (λ ended. ended.fault ≡ None → is_told (wire_of ended.trace.turns) ≡ true) }
+{
     let _streams = taken_streams(alloc, rt)?;
     let network = network_of(alloc, rt, conn, settings)?;
     let observers = observers_of(alloc, rt, config, settings)?;
-    let served = served_of(alloc, config, settings)?;
     let upkeep = upkeep_of(alloc, rt, settings)?;
-    let server = server_of(alloc, network, served, observers, settings)?;
-    run(server, upkeep)
+    let surroundings = Surroundings {
+        network,
+        observers,
+        upkeep,
+    };
+    Ok(ended_of(serve_by(alloc, config, settings, surroundings)?))
+}
+
+// The end of a server that used this network.
+fn ended_of<'r>(used: UsedNetwork<HostNetwork<'r, HostRuntime>>) -> EndedServer
+    requires { OnOk used.served (is_told (wire_of used.network.trace.turns) ≡ true) }
+    ensures trace { result.trace.turns ≡ used.entry.network.trace.turns }
+    ensures told { result.fault ≡ None → is_told (wire_of result.trace.turns) ≡ true }
+{
+    let UsedNetwork { network, served } = used;
+    let trace = network.into_trace();
+    match served {
+        Ok(()) => EndedServer { fault: None, trace },
+        Err(fault) => EndedServer {
+            fault: Some(fault),
+            trace,
+        },
+    }
 }
 
 type HostObservers<'r> = Observers<'r, HostRuntime, &'r HostRuntime>;
-
-type HostServer<'m, 'r> = Server<Conn, HostNetwork<'r, HostRuntime>, Served<'m>, HostObservers<'r>>;
 
 // The sockets of these settings, of which nothing was used yet.
 fn network_of<'r>(
@@ -90,74 +108,6 @@ fn network_of<'r>(
 {
     let sockets = Sockets::open(alloc, rt, settings)?;
     Ok(HostNetwork::new(alloc, rt, sockets, conn, settings.connections)?)
-}
-
-// The core by these settings, to which nothing happened yet.
-fn served_of<'m>(
-    alloc: Global,
-    config: &Config,
-    settings: &'m ServeConfig,
-) -> Result<Served<'m>, AllocError>
-    ensures { IfOk result (λ served. served_turns served ≡ []) }
-{
-    Served::new(
-        alloc,
-        config,
-        settings.connections,
-        MappingRule::of(settings),
-    )
-}
-
-// The loop over these three, to which nothing happened yet.
-fn server_of<'m, 'r>(
-    alloc: Global,
-    network: HostNetwork<'r, HostRuntime>,
-    served: Served<'m>,
-    observers: HostObservers<'r>,
-    settings: &ServeConfig,
-) -> Result<HostServer<'m, 'r>, HostFault>
-    requires network { network.trace.turns ≡ [] }
-    requires served { served_turns served ≡ [] }
-    requires observers { observers.trace.turns ≡ [] }
-{
-    let places = settings.connections;
-    let board = Board::new(alloc, places, network, served, observers)?;
-    Ok(Server::new(alloc, places, board, &loop_settings(settings))?)
-}
-
-// Serves with this server and this upkeep, which are dropped then.
-fn run<
-    N: Network<Conn>,
-    S: Service<Conn>,
-    O: Observer<Conn, S>,
-    U: Upkeep<Conn, N, S, O> + UsesMemory + Drop,
->(mut server: Server<Conn, N, S, O>, mut upkeep: U) -> Result<(), HostFault> {
-    serve(&mut server, &mut upkeep)
-}
-
-// Serves until the server is to end. It returns without a fault only after the network said that. What is on the wire is
-// what the service took and what was sent of its answers, and the observers saw it.
-fn serve<
-    N: Network<Conn>,
-    S: Service<Conn>,
-    O: Observer<Conn, S>,
-    U: Upkeep<Conn, N, S, O> + UsesMemory,
->(server: &mut Server<Conn, N, S, O>, upkeep: &mut U) -> Result<(), HostFault>
-    ensures told { OnOk result (is_told (N.wire server.new.board.parties.network) ≡ true) }
-    ensures law { ∥ Belong (N.wire server.new.board.parties.network) (S.turns server.new.board.parties.service)
-        (O.seen server.new.board.parties.observer) ∥₁ }
-{
-    for _ in 0..u64::MAX {
-        let goes_on = server.turn().map_err(HostFault::Wait)?;
-        server.keep_up(upkeep);
-        if upkeep.lacks_memory() {
-            return Err(HostFault::Memory(AllocError));
-        }
-        if !goes_on && server.board().is_ending() {
-            return Ok(());
-        }
-    }
-    Err(HostFault::Wait(ErrorKind::Other.into()))
 }
 
 // Those who see what happens: the status, the metrics and the logs.

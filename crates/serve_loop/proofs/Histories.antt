@@ -5,7 +5,7 @@ use Rattle.std.proofs.lemmas.List.{get_or-set_same, get_or-set_other, take-appen
 use Rattle.serve_loop.specs.declared.stream.Stream.{Stream}
 use Rattle.serve_loop.specs.declared.stream.Stream.TheVariants.{Place, Updates}
 use Rattle.serve_loop.specs.History.{EventValue, accepted, connected, received, closed, drain, Step, event, sent, Effect, Turn, took, gave, waiting_at, open_at, MayFollow}
-use Rattle.serve_loop.specs.Law.{Belong, EndsWith, Grows, IsKept}
+use Rattle.serve_loop.specs.Law.{Belong, IsAfter, IsKept}
 
 module _ {F : Type 0} (wire wire' : List (Step F)) (turns turns' : List (Turn F)) (seen seen' : List (EventValue F)) where
   -- nothing happened
@@ -154,28 +154,27 @@ closed_more [] closed' (suc k) = refl
 closed_more (p ∷ places) closed' zero = closed' 0
 closed_more (p ∷ places) closed' (suc k) = closed_more places (λ j. closed' (suc j)) k
 
-module _ {F : Type 0} (turns turns' : List (Turn F)) where
-  pub grows_still : turns' ≡ turns → Grows turns turns'
-  grows_still t past h = record {
+module _ {F Setup : Type 0} (turns turns' : List (Turn F)) (setup setup' : Setup) (same : setup' ≡ setup) where
+  pub goes_still : turns' ≡ turns → (past : List (Turn F)) (first : Setup) → IsAfter past first turns setup
+      → IsAfter past first turns' setup'
+  goes_still t past first h = record {
     more = h.more;
     whole = t ∙ h.whole;
+    same = same ∙ h.same;
   }
 
-  pub grows_took : (e : EventValue F) → (effect : Effect) × (turns' ≡ took e effect ∷ turns) → Grows turns turns'
-  grows_took e (effect, t) past h = record {
+  pub goes_took : (e : EventValue F) → (effect : Effect) × (turns' ≡ took e effect ∷ turns) → (past : List (Turn F)) (first : Setup)
+      → IsAfter past first turns setup → IsAfter past first turns' setup'
+  goes_took e (effect, t) past first h = record {
     more = took e effect ∷ h.more;
     whole = t ∙ ap (λ (l : List (Turn F)). took e effect ∷ l) h.whole;
+    same = same ∙ h.same;
   }
 
-  pub grows_gave : (s : Stream) (bytes : List ℕ) → turns' ≡ gave s bytes ∷ turns → Grows turns turns'
-  grows_gave s bytes t past h = record {
+  pub goes_gave : (s : Stream) (bytes : List ℕ) → turns' ≡ gave s bytes ∷ turns → (past : List (Turn F)) (first : Setup)
+      → IsAfter past first turns setup → IsAfter past first turns' setup'
+  goes_gave s bytes t past first h = record {
     more = gave s bytes ∷ h.more;
     whole = t ∙ ap (λ (l : List (Turn F)). gave s bytes ∷ l) h.whole;
+    same = same ∙ h.same;
   }
-
--- what was before a list of turns is its own past
-pub ends_with_all : {F : Type 0} (turns : List (Turn F)) → EndsWith turns turns
-ends_with_all turns = record {
-  more = [];
-  whole = refl;
-}

@@ -40,11 +40,13 @@ pub record IsKept {F : Type 0} (wire : List (Step F)) (places : List Bool) (is_u
   pub updates : open_at Updates wire ≡ is_up
   pub ending : is_told wire ≡ is_ending
 
--- these turns, and before them the past
-pub record EndsWith {F : Type 0} (past turns : List (Turn F)) : Type 0 where
+-- a service after this past, set up with this: these turns, and before them the past; and the same setup
+pub record IsAfter {F Setup : Type 0} (past : List (Turn F)) (first : Setup) (turns : List (Turn F)) (setup : Setup) : Type 0 where
   pub more : List (Turn F)
   pub whole : turns ≡ more ++ past
+  pub same : setup ≡ first
 
--- what happened stays, and turns come after it
-abbrev pub Grows : {F : Type 0} → List (Turn F) → List (Turn F) → Type 0
-Grows {F} old new = (past : List (Turn F)) → EndsWith past old → EndsWith past new
+-- a service goes on: what happened stays, turns come after it, and what it is set up with stays
+abbrev pub GoesOn : {S F Setup : Type 0} → (S → List (Turn F)) → (S → Setup) → S → S → Type 0
+GoesOn {S} {F} {Setup} turns setup old new = (past : List (Turn F)) (first : Setup)
+    → IsAfter past first (turns old) (setup old) → IsAfter past first (turns new) (setup new)

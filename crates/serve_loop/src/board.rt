@@ -33,7 +33,7 @@ impl<F: Drop, N: Network<F>, S: Service<F>, O: Observer<F, S>> Board<F, N, S, O>
     ghost use Rattle.serve_loop.specs.declared.stream.Stream.TheVariants.{Place, Updates};
     ghost use Rattle.serve_loop.specs.History.{accepted, connected, received, is_told, open_at, waiting_at};
     ghost use Rattle.serve_loop.specs.Attempts.{Closes, Tries, Writes};
-    ghost use Rattle.serve_loop.specs.Law.{Grows};
+    ghost use Rattle.serve_loop.specs.Law.{GoesOn};
 
     /// A board of so many places, on which nothing has happened.
     pub fn new(
@@ -76,6 +76,13 @@ impl<F: Drop, N: Network<F>, S: Service<F>, O: Observer<F, S>> Board<F, N, S, O>
         &self.parties.network
     }
 
+    /// The network alone. The service and the observer are dropped.
+    pub fn into_network(self) -> N
+        ensures { result ≡ self.parties.network }
+    {
+        self.parties.network
+    }
+
     /// The service.
     pub fn service(&self) -> &S
         ensures { result.now ≡ self.now.parties.service }
@@ -92,7 +99,7 @@ impl<F: Drop, N: Network<F>, S: Service<F>, O: Observer<F, S>> Board<F, N, S, O>
 
     /// Calls what is done between turns.
     pub fn keep_up<U: Upkeep<F, N, S, O>>(&mut self, upkeep: &mut U)
-        ensures grows { Grows (S.turns self.old.parties.service) (S.turns self.new.parties.service) }
+        ensures goes_on { GoesOn S.turns S.setup self.old.parties.service self.new.parties.service }
         ensures still { S.turns self.new.parties.service ≡ S.turns self.old.parties.service }
     {
         let parties = &mut self.parties;
@@ -130,14 +137,14 @@ impl<F: Drop, N: Network<F>, S: Service<F>, O: Observer<F, S>> Board<F, N, S, O>
 
     /// Waits for at most so many milliseconds, and adds what is ready.
     pub fn wait(&mut self, most: u64, ready: &mut Vec<Ready>) -> io::Result<()>
-        ensures grows { Grows (S.turns self.old.parties.service) (S.turns self.new.parties.service) }
+        ensures goes_on { GoesOn S.turns S.setup self.old.parties.service self.new.parties.service }
     {
         self.parties.wait(most, &mut self.is_ending, ready)
     }
 
     /// Accepts a connection in place `k`. `Lost` if one is open there, if there is no such place, or if it failed.
     pub fn accept(&mut self, k: usize) -> Attempt
-        ensures grows { Grows (S.turns self.old.parties.service) (S.turns self.new.parties.service) }
+        ensures goes_on { GoesOn S.turns S.setup self.old.parties.service self.new.parties.service }
         ensures tries { Tries (λ e. (facts : F) × (e ≡ accepted k facts)) (S.turns self.old.parties.service) result
             (S.turns self.new.parties.service) }
     {
@@ -152,7 +159,7 @@ impl<F: Drop, N: Network<F>, S: Service<F>, O: Observer<F, S>> Board<F, N, S, O>
 
     /// Connects the stream of updates. `Lost` if it is open, or if it failed.
     pub fn connect(&mut self) -> Attempt
-        ensures grows { Grows (S.turns self.old.parties.service) (S.turns self.new.parties.service) }
+        ensures goes_on { GoesOn S.turns S.setup self.old.parties.service self.new.parties.service }
         ensures tries { Tries (λ e. e ≡ connected) (S.turns self.old.parties.service) result (S.turns self.new.parties.service) }
     {
         if self.is_open(Stream::Updates) {
@@ -164,7 +171,7 @@ impl<F: Drop, N: Network<F>, S: Service<F>, O: Observer<F, S>> Board<F, N, S, O>
     /// Reads a stream once, at most as many bytes as `room` has and the service takes. The service takes what was read.
     /// `Lost` if the stream is not open.
     pub fn read(&mut self, stream: Stream, room: &mut [u8]) -> Attempt
-        ensures grows { Grows (S.turns self.old.parties.service) (S.turns self.new.parties.service) }
+        ensures goes_on { GoesOn S.turns S.setup self.old.parties.service self.new.parties.service }
         ensures tries { Tries (λ e. (bytes : List ℕ) × (e ≡ received stream bytes)) (S.turns self.old.parties.service) result
             (S.turns self.new.parties.service) }
     {
@@ -177,7 +184,7 @@ impl<F: Drop, N: Network<F>, S: Service<F>, O: Observer<F, S>> Board<F, N, S, O>
     /// Writes once what waits for a stream. Returns how many bytes the stream took, or why it took none. `Lost` if the
     /// stream is not open.
     pub fn write(&mut self, stream: Stream) -> Result<usize, Attempt>
-        ensures grows { Grows (S.turns self.old.parties.service) (S.turns self.new.parties.service) }
+        ensures goes_on { GoesOn S.turns S.setup self.old.parties.service self.new.parties.service }
         ensures writes { Writes stream (S.turns self.old.parties.service) result (S.turns self.new.parties.service) }
     {
         if !self.is_open(stream) {
@@ -188,7 +195,7 @@ impl<F: Drop, N: Network<F>, S: Service<F>, O: Observer<F, S>> Board<F, N, S, O>
 
     /// Tells the other end of a stream that nothing more is written. Nothing is done if the stream is not open.
     pub fn finish(&mut self, stream: Stream)
-        ensures grows { Grows (S.turns self.old.parties.service) (S.turns self.new.parties.service) }
+        ensures goes_on { GoesOn S.turns S.setup self.old.parties.service self.new.parties.service }
         ensures still { S.turns self.new.parties.service ≡ S.turns self.old.parties.service }
     {
         if self.is_open(stream) {
@@ -198,7 +205,7 @@ impl<F: Drop, N: Network<F>, S: Service<F>, O: Observer<F, S>> Board<F, N, S, O>
 
     /// Closes a stream. Nothing is done if it is not open.
     pub fn close(&mut self, stream: Stream, reason: CloseReason)
-        ensures grows { Grows (S.turns self.old.parties.service) (S.turns self.new.parties.service) }
+        ensures goes_on { GoesOn S.turns S.setup self.old.parties.service self.new.parties.service }
         ensures closed { open_at stream (N.wire self.new.parties.network) ≡ false }
         ensures closes { Closes stream (open_at stream (N.wire self.old.parties.network)) (S.turns self.old.parties.service)
             (S.turns self.new.parties.service) }
@@ -211,7 +218,7 @@ impl<F: Drop, N: Network<F>, S: Service<F>, O: Observer<F, S>> Board<F, N, S, O>
 
     // Closes the connection in a place, if one is open there.
     fn close_place(&mut self, k: usize, reason: CloseReason)
-        ensures grows { Grows (S.turns self.old.parties.service) (S.turns self.new.parties.service) }
+        ensures goes_on { GoesOn S.turns S.setup self.old.parties.service self.new.parties.service }
         ensures closed { open_at (Place k) (N.wire self.new.parties.network) ≡ false }
         ensures closes { Closes (Place k) (open_at (Place k) (N.wire self.old.parties.network)) (S.turns self.old.parties.service)
             (S.turns self.new.parties.service) }
@@ -223,7 +230,7 @@ impl<F: Drop, N: Network<F>, S: Service<F>, O: Observer<F, S>> Board<F, N, S, O>
 
     // Closes the stream of updates, if it is open.
     fn disconnect(&mut self, reason: CloseReason)
-        ensures grows { Grows (S.turns self.old.parties.service) (S.turns self.new.parties.service) }
+        ensures goes_on { GoesOn S.turns S.setup self.old.parties.service self.new.parties.service }
         ensures closed { open_at Updates (N.wire self.new.parties.network) ≡ false }
         ensures closes { Closes Updates (open_at Updates (N.wire self.old.parties.network)) (S.turns self.old.parties.service)
             (S.turns self.new.parties.service) }

@@ -1,5 +1,5 @@
 //! One connection: how far it has come, and its times.
-ghost use Rattle.serve_loop.specs.Law.{Grows};
+ghost use Rattle.serve_loop.specs.Law.{GoesOn};
 
 use crate::attempt::Attempt;
 use crate::board::Board;
@@ -71,7 +71,7 @@ impl Connection {
         k: usize,
         settings: &Settings,
     ) -> Next
-        ensures grows { Grows (S.turns board.old.parties.service) (S.turns board.new.parties.service) }
+        ensures goes_on { GoesOn S.turns S.setup board.old.parties.service board.new.parties.service }
     {
         match self.step(board, k, settings) {
             Next::Again => {}
@@ -90,7 +90,7 @@ impl Connection {
         k: usize,
         settings: &Settings,
     ) -> Next
-        ensures grows { Grows (S.turns board.old.parties.service) (S.turns board.new.parties.service) }
+        ensures goes_on { GoesOn S.turns S.setup board.old.parties.service board.new.parties.service }
     {
         let stream = Stream::Place(k);
         let sent = self.flow.write(board, stream);
@@ -112,7 +112,7 @@ impl Connection {
         board: &mut Board<F, N, S, O>,
         k: usize,
     ) -> Next
-        ensures grows { Grows (S.turns board.old.parties.service) (S.turns board.new.parties.service) }
+        ensures goes_on { GoesOn S.turns S.setup board.old.parties.service board.new.parties.service }
     {
         board.finish(Stream::Place(k));
         self.phase = Phase::Lingers;
@@ -126,7 +126,7 @@ impl Connection {
         board: &mut Board<F, N, S, O>,
         k: usize,
     ) -> Next
-        ensures grows { Grows (S.turns board.old.parties.service) (S.turns board.new.parties.service) }
+        ensures goes_on { GoesOn S.turns S.setup board.old.parties.service board.new.parties.service }
     {
         let mut room = [0u8; CHUNK];
         match board.read(Stream::Place(k), &mut room) {

@@ -1,5 +1,5 @@
 //! Moves bytes of one stream.
-ghost use Rattle.serve_loop.specs.Law.{Grows};
+ghost use Rattle.serve_loop.specs.Law.{GoesOn};
 
 use crate::attempt::Attempt;
 use crate::board::Board;
@@ -51,7 +51,7 @@ impl Flow {
         board: &mut Board<F, N, S, O>,
         stream: Stream,
     ) -> Sent
-        ensures grows { Grows (S.turns board.old.parties.service) (S.turns board.new.parties.service) }
+        ensures goes_on { GoesOn S.turns S.setup board.old.parties.service board.new.parties.service }
     {
         for _ in 0..WRITES {
             if board.waiting(stream) == 0 {

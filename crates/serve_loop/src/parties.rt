@@ -4,7 +4,7 @@ ghost use Rattle.serve_loop.specs.declared.stream.Stream.TheVariants.{Place, Upd
 ghost use Rattle.serve_loop.specs.History.{Effect, Fits, accepted, closed, connected, event, open_at, received, took};
 ghost use Rattle.serve_loop.specs.Attempts.{AddsNone, Tries, Writes};
 ghost use Rattle.serve_loop.specs.Events.{event_view};
-ghost use Rattle.serve_loop.specs.Law.{Belong, Grows, IsKept};
+ghost use Rattle.serve_loop.specs.Law.{Belong, GoesOn, IsKept};
 
 use crate::attempt::{Attempt, attempt_of};
 use crate::network::{Network, Ready};
@@ -34,6 +34,7 @@ impl<F: Drop, N: Network<F>, S: Service<F>, O: Observer<F, S>> Parties<F, N, S, 
         ensures network { self.new.network ≡ self.old.network }
         ensures took { (effect : Effect) × (S.turns self.new.service ≡ took (event_view event.now) effect ∷ S.turns self.old.service) }
         ensures tries { Tries (λ e. e ≡ event_view event.now) (S.turns self.old.service) result (S.turns self.new.service) }
+        ensures setup { S.setup self.new.service ≡ S.setup self.old.service }
         ensures seen { O.seen self.new.observer ≡ event_view event.now ∷ O.seen self.old.observer }
     {
         match self.service.take(event) {
@@ -58,7 +59,7 @@ impl<F: Drop, N: Network<F>, S: Service<F>, O: Observer<F, S>> Parties<F, N, S, 
     ) -> io::Result<()>
         ensures belongs { Belong (N.wire self.old.network) (S.turns self.old.service) (O.seen self.old.observer)
             → Belong (N.wire self.new.network) (S.turns self.new.service) (O.seen self.new.observer) }
-        ensures grows { Grows (S.turns self.old.service) (S.turns self.new.service) }
+        ensures goes_on { GoesOn S.turns S.setup self.old.service self.new.service }
         ensures kept { (places : List Bool) (is_up : Bool) → IsKept (N.wire self.old.network) places is_up is_ending.old
             → IsKept (N.wire self.new.network) places is_up is_ending.new }
     {
@@ -82,7 +83,7 @@ impl<F: Drop, N: Network<F>, S: Service<F>, O: Observer<F, S>> Parties<F, N, S, 
         requires within { k < length places.old.items }
         ensures belongs { Belong (N.wire self.old.network) (S.turns self.old.service) (O.seen self.old.observer)
             → Belong (N.wire self.new.network) (S.turns self.new.service) (O.seen self.new.observer) }
-        ensures grows { Grows (S.turns self.old.service) (S.turns self.new.service) }
+        ensures goes_on { GoesOn S.turns S.setup self.old.service self.new.service }
         ensures tries { Tries (λ e. (facts : F) × (e ≡ accepted k facts)) (S.turns self.old.service) result (S.turns self.new.service) }
         ensures kept { (is_up is_ending : Bool) → IsKept (N.wire self.old.network) places.old.items is_up is_ending
             → IsKept (N.wire self.new.network) places.new.items is_up is_ending }
@@ -101,7 +102,7 @@ impl<F: Drop, N: Network<F>, S: Service<F>, O: Observer<F, S>> Parties<F, N, S, 
         requires { open_at Updates (N.wire self.old.network) ≡ false }
         ensures belongs { Belong (N.wire self.old.network) (S.turns self.old.service) (O.seen self.old.observer)
             → Belong (N.wire self.new.network) (S.turns self.new.service) (O.seen self.new.observer) }
-        ensures grows { Grows (S.turns self.old.service) (S.turns self.new.service) }
+        ensures goes_on { GoesOn S.turns S.setup self.old.service self.new.service }
         ensures tries { Tries (λ e. e ≡ connected) (S.turns self.old.service) result (S.turns self.new.service) }
         ensures kept { (places : List Bool) (is_ending : Bool) → IsKept (N.wire self.old.network) places is_up.old is_ending
             → IsKept (N.wire self.new.network) places is_up.new is_ending }
@@ -120,7 +121,7 @@ impl<F: Drop, N: Network<F>, S: Service<F>, O: Observer<F, S>> Parties<F, N, S, 
         requires { open_at stream (N.wire self.old.network) ≡ true }
         ensures belongs { Belong (N.wire self.old.network) (S.turns self.old.service) (O.seen self.old.observer)
             → Belong (N.wire self.new.network) (S.turns self.new.service) (O.seen self.new.observer) }
-        ensures grows { Grows (S.turns self.old.service) (S.turns self.new.service) }
+        ensures goes_on { GoesOn S.turns S.setup self.old.service self.new.service }
         ensures tries { Tries (λ e. (bytes : List ℕ) × (e ≡ received stream bytes)) (S.turns self.old.service) result
             (S.turns self.new.service) }
         ensures kept { (places : List Bool) (is_up is_ending : Bool) → IsKept (N.wire self.old.network) places is_up is_ending
@@ -147,7 +148,7 @@ impl<F: Drop, N: Network<F>, S: Service<F>, O: Observer<F, S>> Parties<F, N, S, 
         requires { open_at stream (N.wire self.old.network) ≡ true }
         ensures belongs { Belong (N.wire self.old.network) (S.turns self.old.service) (O.seen self.old.observer)
             → Belong (N.wire self.new.network) (S.turns self.new.service) (O.seen self.new.observer) }
-        ensures grows { Grows (S.turns self.old.service) (S.turns self.new.service) }
+        ensures goes_on { GoesOn S.turns S.setup self.old.service self.new.service }
         ensures writes { Writes stream (S.turns self.old.service) result (S.turns self.new.service) }
         ensures kept { (places : List Bool) (is_up is_ending : Bool) → IsKept (N.wire self.old.network) places is_up is_ending
             → IsKept (N.wire self.new.network) places is_up is_ending }
@@ -167,7 +168,7 @@ impl<F: Drop, N: Network<F>, S: Service<F>, O: Observer<F, S>> Parties<F, N, S, 
         requires within { k < length places.old.items }
         ensures belongs { Belong (N.wire self.old.network) (S.turns self.old.service) (O.seen self.old.observer)
             → Belong (N.wire self.new.network) (S.turns self.new.service) (O.seen self.new.observer) }
-        ensures grows { Grows (S.turns self.old.service) (S.turns self.new.service) }
+        ensures goes_on { GoesOn S.turns S.setup self.old.service self.new.service }
         ensures closes { (effect : Effect) × (S.turns self.new.service ≡ took (closed (Place k)) effect ∷ S.turns self.old.service) }
         ensures wire { N.wire self.new.network ≡ event (closed (Place k)) ∷ N.wire self.old.network }
         ensures kept { (is_up is_ending : Bool) → IsKept (N.wire self.old.network) places.old.items is_up is_ending
@@ -183,7 +184,7 @@ impl<F: Drop, N: Network<F>, S: Service<F>, O: Observer<F, S>> Parties<F, N, S, 
         requires { open_at Updates (N.wire self.old.network) ≡ true }
         ensures belongs { Belong (N.wire self.old.network) (S.turns self.old.service) (O.seen self.old.observer)
             → Belong (N.wire self.new.network) (S.turns self.new.service) (O.seen self.new.observer) }
-        ensures grows { Grows (S.turns self.old.service) (S.turns self.new.service) }
+        ensures goes_on { GoesOn S.turns S.setup self.old.service self.new.service }
         ensures closes { (effect : Effect) × (S.turns self.new.service ≡ took (closed Updates) effect ∷ S.turns self.old.service) }
         ensures wire { N.wire self.new.network ≡ event (closed Updates) ∷ N.wire self.old.network }
         ensures kept { (places : List Bool) (is_ending : Bool) → IsKept (N.wire self.old.network) places is_up.old is_ending

@@ -27,6 +27,12 @@ pub trait Service<F>: Drop {
     /// The events that it took and the answers that were sent, the newest first.
     ghost turns: { Self → List (Turn F) };
 
+    /// The type of what it is set up with.
+    ghost Setup: { Type 0 };
+
+    /// What it is set up with. No event changes that.
+    ghost setup: { Self → Self.Setup };
+
     /// How many bytes of a stream it takes.
     ghost takes: { Self → Stream → ℕ };
 
@@ -38,10 +44,11 @@ pub trait Service<F>: Drop {
     /// be closed.
     fn take(&mut self, event: &Event<'_, F>) -> Result<Outcome, AllocError>
         requires { Fits (takes self.old) (event_view event.now) }
-        ensures { MatchResult result
+        ensures turns { MatchResult result
             (λ outcome. (out : List ℕ)
             × (turns self.new ≡ took (event_view event.now) (answered out outcome.closes) ∷ turns self.old))
-            (λ _. turns self.new ≡ took (event_view event.now) no_memory ∷ turns self.old) };
+            (λ _. turns self.new ≡ took (event_view event.now) no_memory ∷ turns self.old) }
+        ensures setup { setup self.new ≡ setup self.old };
 
     /// The bytes that wait for a stream.
     fn unsent(&self, stream: Stream) -> &[u8]
@@ -50,5 +57,6 @@ pub trait Service<F>: Drop {
     /// The first bytes of those that wait for the stream were sent.
     fn sent(&mut self, stream: Stream, count: usize)
         requires { count ≤ length (waiting_at stream (turns self.old)) }
-        ensures { turns self.new ≡ gave stream (take count (waiting_at stream (turns self.old))) ∷ turns self.old };
+        ensures turns { turns self.new ≡ gave stream (take count (waiting_at stream (turns self.old))) ∷ turns self.old }
+        ensures setup { setup self.new ≡ setup self.old };
 }

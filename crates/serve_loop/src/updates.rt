@@ -1,5 +1,5 @@
 //! The stream of updates: when it is connected, and its times.
-ghost use Rattle.serve_loop.specs.Law.{Grows};
+ghost use Rattle.serve_loop.specs.Law.{GoesOn};
 
 use crate::attempt::Attempt;
 use crate::board::Board;
@@ -50,7 +50,7 @@ impl Updates {
         board: &mut Board<F, N, S, O>,
         settings: &Settings,
     )
-        ensures grows { Grows (S.turns board.old.parties.service) (S.turns board.new.parties.service) }
+        ensures goes_on { GoesOn S.turns S.setup board.old.parties.service board.new.parties.service }
     {
         self.is_due = false;
         for _ in 0..PIECES {
@@ -69,7 +69,7 @@ impl Updates {
         board: &mut Board<F, N, S, O>,
         settings: &Settings,
     ) -> Next
-        ensures grows { Grows (S.turns board.old.parties.service) (S.turns board.new.parties.service) }
+        ensures goes_on { GoesOn S.turns S.setup board.old.parties.service board.new.parties.service }
     {
         let is_open = board.is_open(Stream::Updates);
         if is_open {
@@ -133,7 +133,7 @@ impl Updates {
         reason: CloseReason,
         settings: &Settings,
     )
-        ensures grows { Grows (S.turns board.old.parties.service) (S.turns board.new.parties.service) }
+        ensures goes_on { GoesOn S.turns S.setup board.old.parties.service board.new.parties.service }
     {
         if board.is_open(Stream::Updates) {
             if reason == CloseReason::Served {
@@ -154,7 +154,7 @@ impl Updates {
         board: &mut Board<F, N, S, O>,
         settings: &Settings,
     )
-        ensures grows { Grows (S.turns board.old.parties.service) (S.turns board.new.parties.service) }
+        ensures goes_on { GoesOn S.turns S.setup board.old.parties.service board.new.parties.service }
     {
         self.is_due = true;
         if !board.is_open(Stream::Updates) {

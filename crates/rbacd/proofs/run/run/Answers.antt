@@ -10,7 +10,7 @@ pub returns-in-Err : goal.returns-in-Err
 returns-in-Err g c =
     let (reported, same, left) = c.end_by.ensures in
     let fault = c.words_fault.ensures in
-    end_of_words _ _ _ _ _ _ _ _ _ _ _ c.in-Err.error c.words_fault.result reported fault.memory fault.words c.in-Err.ensures.mistaken same left
+    end_of_words _ _ _ _ _ _ _ _ _ _ _ _ c.in-Err.error c.words_fault.result reported fault.memory fault.words c.in-Err.ensures.mistaken same left
 
 pub run_named-requires : goal.run_named-requires
 run_named-requires g c = runnable c.in-Ok.ensures.job.1.0 c.in-Ok.job c.in-Ok.ensures.job.1.2

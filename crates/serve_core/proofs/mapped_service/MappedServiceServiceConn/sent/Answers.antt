@@ -1,13 +1,15 @@
 -- The first bytes of those that wait were sent.
-use Rattle.std.proofs.Common.{◌≡◌, ℕ, List, [], ◌∷◌, length, take, sym, ap, ◌∙◌}
+use Rattle.std.proofs.Common.{◌≡◌, ℕ, List, [], ◌∷◌, Some, length, take, sym, ap, ◌∙◌}
 use Rattle.std.proofs.Math.Logic.{∥∥₁_elim, ∥∥₁_map}
 use Rattle.std.specs.Coded.{coded_list, coded_ℕ}
 use base.Stored.{Coded-set}
+use Rattle.rbac_serve.specs.Workers.{worker_view}
 use Rattle.serve_loop.specs.History.{gave, waiting_at}
 use Rattle.serve_core.specs.ClientRequests.{rule_view}
 use Rattle.serve_core.specs.Fronts.{fronts_view, waits_in}
 use Rattle.serve_core.specs.Turns.{ServerTurn}
 use Rattle.serve_core.proofs.FrontRuns.{matched_more, run_after, waits_after}
+use Rattle.serve_core.proofs.Setups.{fronts_keep, same_setup}
 use Rattle.serve_core.proofs.mapped_service.MappedServiceServiceConn.sent.Goals as goal
 
 pub sent-requires : goal.sent-requires
@@ -33,10 +35,19 @@ invariant_of-self c =
       matched = matched_more rule before new [] old.matched turn c.sent.ensures.found;
     }
 
-pub returns : goal.returns
-returns c =
+pub returns-clause-turns : goal.returns-clause-turns
+returns-clause-turns c =
     let old = c.args.self.now in
     let here : waits_in c.args.stream (fronts_view old.fronts) ≡ waiting_at c.args.stream old.trace.turns =
     ∥∥₁_elim old.waits (Coded-set (coded_list coded_ℕ) _ _) (λ waits. sym (waits c.args.stream)) in
     c.then-self.ensures
     ∙ ap (λ (l : List ℕ). gave c.args.stream (take c.args.count l) ∷ old.trace.turns) (c.unsent.ensures ∙ here)
+
+pub returns-clause-setup : goal.returns-clause-setup
+returns-clause-setup c =
+    let old = c.args.self.now.fronts in
+    let new = c.sent.new.self in
+    let turn : ServerTurn = gave c.args.stream (take c.args.count (waits_in c.args.stream (fronts_view old))) in
+    same_setup (worker_view old.core.worker) (worker_view new.core.worker) (Some (rule_view old.rule)) (Some (rule_view new.rule))
+    (fronts_keep (rule_view old.rule) (fronts_view old) (fronts_view new) [] turn c.sent.ensures.found)
+    (ap Some c.sent.ensures.rule)

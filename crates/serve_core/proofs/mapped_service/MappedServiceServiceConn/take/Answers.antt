@@ -1,12 +1,14 @@
 -- One turn more.
-use Rattle.std.proofs.Common.{◌≡◌, ℕ, List, ◌∷◌, ap, ◌∙◌}
+use Rattle.std.proofs.Common.{◌≡◌, ℕ, List, ◌∷◌, Some, ap, ◌∙◌}
 use Rattle.std.proofs.Math.Logic.{∥∥₁_map}
+use Rattle.rbac_serve.specs.Workers.{worker_view}
 use Rattle.serve_loop.specs.Events.{event_view}
 use Rattle.serve_loop.specs.History.{answered, no_memory, took}
 use Rattle.serve_core.specs.ClientRequests.{rule_view}
 use Rattle.serve_core.specs.Fronts.{added_in, fronts_view, kept_in}
 use Rattle.serve_core.specs.Turns.{ServerTurn}
 use Rattle.serve_core.proofs.FrontRuns.{matched_more, run_after, waits_after}
+use Rattle.serve_core.proofs.Setups.{fronts_keep, same_setup}
 use Rattle.serve_core.proofs.mapped_service.MappedServiceServiceConn.take.Goals as goal
 
 pub happen-requires-clause-matched : goal.happen-requires-clause-matched
@@ -49,8 +51,28 @@ invariant_of-self-in-Err c =
       matched = matched_more rule before new answers old.matched turn c.in-Err.ensures.found;
     }
 
-pub returns-in-Ok : goal.returns-in-Ok
-returns-in-Ok c = (_, c.with_answer-self.ensures)
+pub returns-in-Ok-clause-turns : goal.returns-in-Ok-clause-turns
+returns-in-Ok-clause-turns c = (_, c.with_answer-self.ensures)
 
-pub returns-in-Err : goal.returns-in-Err
-returns-in-Err c = c.then-self.ensures
+pub returns-in-Ok-clause-setup : goal.returns-in-Ok-clause-setup
+returns-in-Ok-clause-setup c =
+    let event = event_view c.args.event.now in
+    let old = c.args.self.now.fronts in
+    let new = c.happen.new.self in
+    let out = added_in event (kept_in event (fronts_view old)) (fronts_view new) in
+    let turn : ServerTurn = took event (answered out c.in-Ok.outcome.closes) in
+    same_setup (worker_view old.core.worker) (worker_view new.core.worker) (Some (rule_view old.rule)) (Some (rule_view new.rule))
+    (fronts_keep (rule_view old.rule) (fronts_view old) (fronts_view new) new.answers.items turn c.in-Ok.ensures.found)
+    (ap Some c.happen.ensures.rule)
+
+pub returns-in-Err-clause-turns : goal.returns-in-Err-clause-turns
+returns-in-Err-clause-turns c = c.then-self.ensures
+
+pub returns-in-Err-clause-setup : goal.returns-in-Err-clause-setup
+returns-in-Err-clause-setup c =
+    let old = c.args.self.now.fronts in
+    let new = c.happen.new.self in
+    let turn : ServerTurn = took (event_view c.args.event.now) no_memory in
+    same_setup (worker_view old.core.worker) (worker_view new.core.worker) (Some (rule_view old.rule)) (Some (rule_view new.rule))
+    (fronts_keep (rule_view old.rule) (fronts_view old) (fronts_view new) new.answers.items turn c.in-Err.ensures.found)
+    (ap Some c.happen.ensures.rule)

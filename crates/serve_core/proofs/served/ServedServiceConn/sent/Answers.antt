@@ -7,8 +7,14 @@ sent-requires c = rw c.in-AsSent.is at c.requires
 pub sent-requires-in-Mapped : goal.sent-requires-in-Mapped
 sent-requires-in-Mapped c = rw c.in-Mapped.is at c.requires
 
-pub returns-in-AsSent : goal.returns-in-AsSent
-returns-in-AsSent c = rw c.in-AsSent.is c.sent.ensures
+pub returns-in-AsSent-clause-turns : goal.returns-in-AsSent-clause-turns
+returns-in-AsSent-clause-turns c = rw c.in-AsSent.is c.sent.ensures.turns
 
-pub returns-in-Mapped : goal.returns-in-Mapped
-returns-in-Mapped c = rw c.in-Mapped.is c.sent-in-Mapped.ensures
+pub returns-in-AsSent-clause-setup : goal.returns-in-AsSent-clause-setup
+returns-in-AsSent-clause-setup c = rw c.in-AsSent.is c.sent.ensures.setup
+
+pub returns-in-Mapped-clause-turns : goal.returns-in-Mapped-clause-turns
+returns-in-Mapped-clause-turns c = rw c.in-Mapped.is c.sent-in-Mapped.ensures.turns
+
+pub returns-in-Mapped-clause-setup : goal.returns-in-Mapped-clause-setup
+returns-in-Mapped-clause-setup c = rw c.in-Mapped.is c.sent-in-Mapped.ensures.setup

@@ -1,7 +1,7 @@
 -- A connection was closed.
 use Rattle.std.proofs.Common.{ap, ◌∙◌}
 use Rattle.serve_loop.specs.History.{closed}
-use Rattle.serve_loop.proofs.Histories.{belong_took, kept_closed, grows_took}
+use Rattle.serve_loop.proofs.Histories.{belong_took, kept_closed, goes_took}
 use Rattle.serve_loop.proofs.parties.Parties.close.Goals as goal
 
 pub returns-clause-belongs : goal.returns-clause-belongs
@@ -12,5 +12,5 @@ pub returns-clause-kept : goal.returns-clause-kept
 returns-clause-kept g c = λ is_up is_ending k. rw c.put_place.ensures (kept_closed _ _ _ is_up is_ending c.args.k
     c.requires.within (ap g.N.Network.wire c.deliver.ensures.network ∙ c.close.ensures) k)
 
-pub returns-clause-grows : goal.returns-clause-grows
-returns-clause-grows g c = grows_took _ _ _ c.deliver.ensures.took
+pub returns-clause-goes_on : goal.returns-clause-goes_on
+returns-clause-goes_on g c = goes_took _ _ _ _ c.deliver.ensures.setup _ c.deliver.ensures.took

@@ -1,7 +1,7 @@
 -- The stream of updates was connected, or not.
 use Rattle.std.proofs.Common.{ap, ◌∙◌}
 use Rattle.serve_loop.specs.History.{connected}
-use Rattle.serve_loop.proofs.Histories.{belong_still, belong_took, kept_still, kept_connected, grows_still, grows_took}
+use Rattle.serve_loop.proofs.Histories.{belong_still, belong_took, kept_still, kept_connected, goes_still, goes_took}
 use Rattle.serve_loop.proofs.parties.Parties.connect.Goals as goal
 
 pub returns-in-Ok-clause-belongs : goal.returns-in-Ok-clause-belongs
@@ -20,8 +20,8 @@ pub returns-in-Err-clause-kept : goal.returns-in-Err-clause-kept
 returns-in-Err-clause-kept g c = λ places is_ending k. kept_still _ _ places _ is_ending
     (ap g.N.Network.wire c.failed.ensures.network ∙ c.in-Err.ensures) k
 
-pub returns-in-Ok-clause-grows : goal.returns-in-Ok-clause-grows
-returns-in-Ok-clause-grows g c = grows_took _ _ _ c.deliver.ensures.took
+pub returns-in-Ok-clause-goes_on : goal.returns-in-Ok-clause-goes_on
+returns-in-Ok-clause-goes_on g c = goes_took _ _ _ _ c.deliver.ensures.setup _ c.deliver.ensures.took
 
-pub returns-in-Err-clause-grows : goal.returns-in-Err-clause-grows
-returns-in-Err-clause-grows g c = grows_still _ _ (ap g.S.Service.turns c.failed.ensures.service)
+pub returns-in-Err-clause-goes_on : goal.returns-in-Err-clause-goes_on
+returns-in-Err-clause-goes_on g c = goes_still _ _ _ _ (ap g.S.Service.setup c.failed.ensures.service) (ap g.S.Service.turns c.failed.ensures.service)

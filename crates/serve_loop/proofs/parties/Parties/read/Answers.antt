@@ -1,7 +1,7 @@
 -- Bytes were read and given to the service, or none were read.
 use Rattle.std.proofs.Common.{◌<◌, ap, ◌∙◌, refl, arith, take}
 use Rattle.serve_loop.specs.History.{received}
-use Rattle.serve_loop.proofs.Histories.{belong_still, belong_took, kept_still, kept_received, grows_still, grows_took}
+use Rattle.serve_loop.proofs.Histories.{belong_still, belong_took, kept_still, kept_received, goes_still, goes_took}
 use Rattle.serve_loop.proofs.parties.Parties.read.Goals as goal
 
 pub returns-else-count-eq0-clause-belongs : goal.returns-else-count-eq0-clause-belongs
@@ -35,14 +35,14 @@ returns-in-Err-clause-belongs g c = belong_still _ _ _ _ _ _ (c.in-Err.ensures.r
 pub returns-in-Err-clause-kept : goal.returns-in-Err-clause-kept
 returns-in-Err-clause-kept g c = λ places is_up is_ending k. kept_still _ _ places is_up is_ending (c.in-Err.ensures.received) k
 
-pub returns-else-count-eq0-clause-grows : goal.returns-else-count-eq0-clause-grows
-returns-else-count-eq0-clause-grows g c = grows_took _ _ _ c.deliver.ensures.took
+pub returns-else-count-eq0-clause-goes_on : goal.returns-else-count-eq0-clause-goes_on
+returns-else-count-eq0-clause-goes_on g c = goes_took _ _ _ _ c.deliver.ensures.setup _ c.deliver.ensures.took
 
-pub returns-then-count-eq0-clause-grows : goal.returns-then-count-eq0-clause-grows
-returns-then-count-eq0-clause-grows g c = grows_still _ _ refl
+pub returns-then-count-eq0-clause-goes_on : goal.returns-then-count-eq0-clause-goes_on
+returns-then-count-eq0-clause-goes_on g c = goes_still _ _ _ _ refl refl
 
-pub returns-then-most-eq0-clause-grows : goal.returns-then-most-eq0-clause-grows
-returns-then-most-eq0-clause-grows g c = grows_still _ _ refl
+pub returns-then-most-eq0-clause-goes_on : goal.returns-then-most-eq0-clause-goes_on
+returns-then-most-eq0-clause-goes_on g c = goes_still _ _ _ _ refl refl
 
-pub returns-in-Err-clause-grows : goal.returns-in-Err-clause-grows
-returns-in-Err-clause-grows g c = grows_still _ _ refl
+pub returns-in-Err-clause-goes_on : goal.returns-in-Err-clause-goes_on
+returns-in-Err-clause-goes_on g c = goes_still _ _ _ _ refl refl

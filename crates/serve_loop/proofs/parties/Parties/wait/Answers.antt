@@ -1,7 +1,7 @@
 -- The server was told to end, or nothing happened.
 use Rattle.std.proofs.Common.{ap, ◌∙◌, refl}
 use Rattle.serve_loop.specs.History.{drain}
-use Rattle.serve_loop.proofs.Histories.{belong_still, belong_took, kept_still, kept_drain, waited_on, waited_told, grows_still, grows_took}
+use Rattle.serve_loop.proofs.Histories.{belong_still, belong_took, kept_still, kept_drain, waited_on, waited_told, goes_still, goes_took}
 use Rattle.serve_loop.proofs.parties.Parties.wait.Goals as goal
 
 pub returns-else-not-waited-clause-belongs : goal.returns-else-not-waited-clause-belongs
@@ -28,11 +28,11 @@ returns-in-Err-clause-belongs g c = belong_still _ _ _ _ _ _ (c.in-Err.ensures) 
 pub returns-in-Err-clause-kept : goal.returns-in-Err-clause-kept
 returns-in-Err-clause-kept g c = λ places is_up k. kept_still _ _ places is_up _ (c.in-Err.ensures) k
 
-pub returns-else-not-waited-clause-grows : goal.returns-else-not-waited-clause-grows
-returns-else-not-waited-clause-grows g c = grows_took _ _ _ c.deliver.ensures.took
+pub returns-else-not-waited-clause-goes_on : goal.returns-else-not-waited-clause-goes_on
+returns-else-not-waited-clause-goes_on g c = goes_took _ _ _ _ c.deliver.ensures.setup _ c.deliver.ensures.took
 
-pub returns-then-not-waited-clause-grows : goal.returns-then-not-waited-clause-grows
-returns-then-not-waited-clause-grows g c = grows_still _ _ refl
+pub returns-then-not-waited-clause-goes_on : goal.returns-then-not-waited-clause-goes_on
+returns-then-not-waited-clause-goes_on g c = goes_still _ _ _ _ refl refl
 
-pub returns-in-Err-clause-grows : goal.returns-in-Err-clause-grows
-returns-in-Err-clause-grows g c = grows_still _ _ refl
+pub returns-in-Err-clause-goes_on : goal.returns-in-Err-clause-goes_on
+returns-in-Err-clause-goes_on g c = goes_still _ _ _ _ refl refl

@@ -1,0 +1,125 @@
+//! Serves by settings, over any network.
+ghost use Rattle.std.specs.Prelude.{◌≡◌, [], true, IfOk, OnOk};
+ghost use Rattle.serve_loop.specs.History.{is_told};
+ghost use Rattle.serve_loop.specs.Law.{Belong, GoesOn};
+ghost use Rattle.serve_core.specs.MappedHeadline.{SettingsHeadline};
+ghost use Rattle.serve_core.specs.Served.{served_setup, served_turns};
+ghost use Rattle.serve_core.specs.Setups.{IsSetupBy};
+
+use crate::fault::HostFault;
+use crate::loop_settings::loop_settings;
+use crate::upkeep::UsesMemory;
+use ads::Config;
+use attributes::Conn;
+use serve_config::ServeConfig;
+use serve_core::{MappingRule, Served};
+use serve_loop::{Board, Network, Observer, Server, Service, Upkeep};
+use std::alloc::{AllocError, Global};
+use std::io::ErrorKind;
+
+/// What a server needs beside its service.
+#[derive(Drop)]
+pub(crate) struct Surroundings<N, O, U> {
+    pub(crate) network: N,
+    pub(crate) observers: O,
+    pub(crate) upkeep: U,
+}
+
+/// A network after a server used it, and why the server could not go on, if it could not.
+#[derive(Drop)]
+pub(crate) struct UsedNetwork<N> {
+    pub(crate) network: N,
+    pub(crate) served: Result<(), HostFault>,
+}
+
+/// Serves with this configuration and by these settings until the server is to end. Over any network to which nothing
+/// has happened, the headline holds of all that happens on its wire. It ends without a fault only after the network said
+/// that it is to end. The error is out of memory before it begins.
+pub(crate) fn serve_by<
+    'm,
+    N: Network<Conn>,
+    O: Observer<Conn, Served<'m>>,
+    U: Upkeep<Conn, N, Served<'m>, O> + UsesMemory + Drop,
+>(
+    alloc: Global,
+    config: &Config,
+    settings: &'m ServeConfig,
+    surroundings: Surroundings<N, O, U>,
+) -> Result<UsedNetwork<N>, AllocError>
+    requires wire { N.wire surroundings.network ≡ [] }
+    requires seen { O.seen surroundings.observers ≡ [] }
+    ensures headline { IfOk result (λ used. SettingsHeadline config.now settings.now (N.wire used.network)) }
+    ensures told { IfOk result (λ used. OnOk used.served (is_told (N.wire used.network) ≡ true)) }
+{
+    let Surroundings {
+        network,
+        observers,
+        upkeep,
+    } = surroundings;
+    let places = settings.connections;
+    let service = service_of(alloc, config, settings)?;
+    let board = Board::new(alloc, places, network, service, observers)?;
+    let server = Server::new(alloc, places, board, &loop_settings(settings))?;
+    let (server, served) = run(server, upkeep);
+    Ok(UsedNetwork {
+        network: server.into_network(),
+        served,
+    })
+}
+
+// The core by these settings, to which nothing happened yet.
+fn service_of<'m>(
+    alloc: Global,
+    config: &Config,
+    settings: &'m ServeConfig,
+) -> Result<Served<'m>, AllocError>
+    ensures turns { IfOk result (λ service. served_turns service ≡ []) }
+    ensures setup { IfOk result (λ service. IsSetupBy config.now settings.now (served_setup service)) }
+{
+    let rule = MappingRule::of(settings);
+    Served::new(alloc, config, settings.connections, rule)
+}
+
+// Serves with this server and this upkeep, which is dropped then. Returns the server, and why it could not go on, if it
+// could not.
+fn run<
+    N: Network<Conn>,
+    S: Service<Conn>,
+    O: Observer<Conn, S>,
+    U: Upkeep<Conn, N, S, O> + UsesMemory + Drop,
+>(
+    mut server: Server<Conn, N, S, O>,
+    mut upkeep: U,
+) -> (Server<Conn, N, S, O>, Result<(), HostFault>)
+    ensures told { OnOk result.1 (is_told (N.wire result.0.board.parties.network) ≡ true) }
+    ensures goes_on { GoesOn S.turns S.setup server.board.parties.service result.0.board.parties.service }
+{
+    let served = serve(&mut server, &mut upkeep);
+    (server, served)
+}
+
+// Serves until the server is to end. It returns without a fault only after the network said that. What is on the wire is
+// what the service took and what was sent of its answers, and the observers saw it.
+fn serve<
+    N: Network<Conn>,
+    S: Service<Conn>,
+    O: Observer<Conn, S>,
+    U: Upkeep<Conn, N, S, O> + UsesMemory,
+>(server: &mut Server<Conn, N, S, O>, upkeep: &mut U) -> Result<(), HostFault>
+    ensures told { OnOk result (is_told (N.wire server.new.board.parties.network) ≡ true) }
+    ensures law { ∥ Belong (N.wire server.new.board.parties.network) (S.turns server.new.board.parties.service)
+        (O.seen server.new.board.parties.observer) ∥₁ }
+    ensures goes_on { GoesOn S.turns S.setup server.old.board.parties.service server.new.board.parties.service }
+{
+    for _ in 0..u64::MAX {
+        let goes_on = server.turn().map_err(HostFault::Wait)?;
+        server.keep_up(upkeep);
+        if upkeep.lacks_memory() {
+            return Err(HostFault::Memory(AllocError));
+        }
+        if !goes_on && server.board().is_ending() {
+            return Ok(());
+        }
+    }
+    Err(HostFault::Wait(ErrorKind::Other.into()))
+}
