@@ -74,7 +74,7 @@ pub(crate) fn refusal(alloc: Global) -> Result<Vec<Field>, AllocError>
     Ok(fields)
 }
 
-fn field(alloc: Global, name: &str, value: &str) -> Result<Field, AllocError>
+pub(crate) fn field(alloc: Global, name: &str, value: &str) -> Result<Field, AllocError>
     ensures { IfOk result (λ f. line_of f ≡ line name.now value.now) }
 {
     let name = Vec::from_slice(alloc, name.as_bytes())?;

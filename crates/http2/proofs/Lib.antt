@@ -8,3 +8,9 @@ mod Serves
 mod Turns
 mod Acts
 mod Begins
+mod Finding
+mod Writing
+mod Separate
+mod Bounded
+mod Contents
+pub mod Unaries

@@ -22,7 +22,7 @@ AreSpoken n [] = Unit {0}
 AreSpoken n (got frame ∷ steps) = ⊥
 AreSpoken n (put frame ∷ steps) = IsSpoken n frame × AreSpoken n steps
 
-no_answer : (frame : List ℕ) (kind : ℕ) → kind_of frame ≡ kind → kind ≢ 3 → is_reply frame ≡ false → is_answer frame ≡ false
+pub no_answer : (frame : List ℕ) (kind : ℕ) → kind_of frame ≡ kind → kind ≢ 3 → is_reply frame ≡ false → is_answer frame ≡ false
 no_answer frame kind is three quiet =
     ap (λ (b : Bool). if b then true else is_reply frame) (ne_eqb (kind_of frame) 3 (λ e. three (sym is ∙ e))) ∙ quiet
 

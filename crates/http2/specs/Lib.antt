@@ -15,3 +15,12 @@ pub mod Serving
 pub mod Servings
 pub mod Served
 pub mod Servers
+pub mod Streams
+pub mod Exchange
+pub mod StreamViews
+pub mod Exchanges
+pub mod Exchanged
+pub mod Unary
+pub mod Separate
+pub mod Contents
+pub mod Bounds

@@ -5,7 +5,7 @@ ghost use Rattle.http2.specs.Frame.{IsStream};
 
 use crate::acting::{head, serve};
 use crate::fault::{Code, Fault};
-use crate::first_words::WINDOW;
+use crate::first_words::{PREFACE, WINDOW};
 use crate::frame::GOAWAY;
 use crate::over::{Over, broke};
 use crate::pipe::Pipe;
@@ -14,9 +14,6 @@ use crate::tunnel::{MOST_WAITING, PENDING};
 use crate::written::octets;
 use hpack::Field;
 use std::alloc::{AllocError, Global};
-
-/// What a client says first (RFC 9113, 3.4).
-const PREFACE: &[u8; 24] = b"PRI * HTTP/2.0\r\n\r\nSM\r\n\r\n";
 
 /// A server of one call.
 #[derive(Debug, Drop)]

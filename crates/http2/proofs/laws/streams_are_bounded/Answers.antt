@@ -1,0 +1,6 @@
+use Rattle.http2.specs.Served.{answered}
+use Rattle.http2.proofs.Bounded.{comes_bounded}
+use Rattle.http2.proofs.laws.streams_are_bounded.Goals as goal
+
+pub returns : goal.returns
+returns c = λ trail e calls goes. comes_bounded goes.0 e calls (answered goes.0) goes.2
