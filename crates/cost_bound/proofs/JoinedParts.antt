@@ -7,6 +7,12 @@ use Rattle.cel_costs.specs.Sizes.{Size, Flat, Text, Many, Table, join, least}
 max_assoc : (n m p : ℕ) → max (max n m) p ≡ max n (max m p)
 max_assoc n m p = omega arith
 
+max_self : (n : ℕ) → max n n ≡ n
+max_self n = omega arith
+
+max_comm : (n m : ℕ) → max n m ≡ max m n
+max_comm n m = omega arith
+
 join_assoc : (s t u : Size) → join (join s t) u ≡ join s (join t u)
 join_assoc Flat t u = refl
 join_assoc (Text n) Flat u = refl
@@ -48,6 +54,32 @@ join_assoc (Table n k v) (Table m l w) Flat = refl
 join_assoc (Table n k v) (Table m l w) (Text p) = rw (max_assoc n m p) refl
 join_assoc (Table n k v) (Table m l w) (Many p g) = rw (max_assoc n m p, join_assoc k l g, join_assoc v w g) refl
 join_assoc (Table n k v) (Table m l w) (Table p i u) = rw (max_assoc n m p, join_assoc k l i, join_assoc v w u) refl
+
+-- a size joined with itself
+pub join_self : (s : Size) → join s s ≡ s
+join_self Flat = refl
+join_self (Text n) = rw (max_self n) refl
+join_self (Many n e) = rw (max_self n, join_self e) refl
+join_self (Table n k v) = rw (max_self n, join_self k, join_self v) refl
+
+-- which of two sizes is first does not matter
+pub join_comm : (s t : Size) → join s t ≡ join t s
+join_comm Flat Flat = refl
+join_comm Flat (Text m) = refl
+join_comm Flat (Many m f) = refl
+join_comm Flat (Table m j w) = refl
+join_comm (Text n) Flat = refl
+join_comm (Text n) (Text m) = rw (max_comm n m) refl
+join_comm (Text n) (Many m f) = rw (max_comm n m) refl
+join_comm (Text n) (Table m j w) = rw (max_comm n m) refl
+join_comm (Many n e) Flat = refl
+join_comm (Many n e) (Text m) = rw (max_comm n m) refl
+join_comm (Many n e) (Many m f) = rw (max_comm n m, join_comm e f) refl
+join_comm (Many n e) (Table m j w) = rw (max_comm n m, join_comm e j, join_comm e w) refl
+join_comm (Table n k v) Flat = refl
+join_comm (Table n k v) (Text m) = rw (max_comm n m) refl
+join_comm (Table n k v) (Many m f) = rw (max_comm n m, join_comm k f, join_comm v f) refl
+join_comm (Table n k v) (Table m j w) = rw (max_comm n m, join_comm k j, join_comm v w) refl
 
 pub join_flat : (s : Size) → join s Flat ≡ s
 join_flat Flat = refl

@@ -4,7 +4,8 @@ ghost use Rattle.std.specs.Prelude.{◌≡◌, IfOk, IfSome, IsTrue};
 ghost use Rattle.cel_costs.specs.Sizes.{Text, join};
 ghost use Rattle.cost_bound.specs.private.SizeView.{size_view};
 
-use crate::size::{ValueSize, covers, join};
+use crate::size::ValueSize;
+use crate::wider::{covers, join};
 use std::alloc::{AllocError, Global};
 
 /// The join of two sizes. Those of texts, and any with a flat one before it, are joined without a call.

@@ -1,20 +1,18 @@
-//! The sizes that are known before an expression runs: of constants, of attributes, and the least
-//! of types.
+//! The sizes that are known before an expression runs: of constants and of attributes.
 
 ghost use Rattle.std.specs.Prelude.{◌≡◌, IfOk};
 ghost use Rattle.attributes.specs.Limits.{limit_of};
 ghost use Rattle.attributes.specs.declared.attribute.AttrId.TheVariants.{RequestHeaders};
 ghost use Rattle.cel_tree.specs.View.{constant_view};
-ghost use Rattle.cel_value.specs.Types.{type_view};
 ghost use Rattle.cel_costs.specs.Costs.{attribute_size, constant_size};
-ghost use Rattle.cel_costs.specs.Sizes.{Text, least, least_key};
+ghost use Rattle.cel_costs.specs.Sizes.{Text};
 ghost use Rattle.cost_bound.specs.private.SizeView.{size_view};
 
 use crate::measuring::Measuring;
-use crate::size::{ValueSize, many, table};
+use crate::size::{ValueSize, table};
 use attributes::{AttrId, Limit, Limits};
 use cel_tree::Constant;
-use cel_value::{CelType, KeyType, text_length};
+use cel_value::text_length;
 use std::alloc::{AllocError, Global};
 
 /// The size of a constant: exactly its length, or flat.
@@ -81,30 +79,4 @@ fn headers_size(alloc: Global, limits: &Limits) -> Result<ValueSize, AllocError>
         limit_of(limits, Limit::Name),
         limit_of(limits, Limit::Value),
     )
-}
-
-/// The least size of a type.
-pub(crate) fn least(alloc: Global, cel_type: &CelType) -> Result<ValueSize, AllocError>
-    ensures { IfOk result (λ size. size_view size ≡ least (type_view cel_type.now)) }
-{
-    match cel_type {
-        CelType::Bool => Ok(ValueSize::Flat),
-        CelType::Int => Ok(ValueSize::Flat),
-        CelType::Uint => Ok(ValueSize::Flat),
-        CelType::Text => Ok(ValueSize::Text(0)),
-        CelType::Bytes => Ok(ValueSize::Text(0)),
-        CelType::List(items) => many(alloc, 0, least(alloc, items)?),
-        CelType::Map(keys, values) => table(alloc, 0, least_key(*keys), least(alloc, values)?),
-    }
-}
-
-fn least_key(keys: KeyType) -> ValueSize
-    ensures { size_view result ≡ least_key keys }
-{
-    match keys {
-        KeyType::Bool => ValueSize::Flat,
-        KeyType::Int => ValueSize::Flat,
-        KeyType::Uint => ValueSize::Flat,
-        KeyType::Text => ValueSize::Text(0),
-    }
 }

@@ -9,8 +9,8 @@ ghost use Rattle.cost_bound.specs.private.Numbers.{capped};
 ghost use Rattle.cost_bound.specs.private.SizeView.{IsEntries, size_view, sizes_view};
 
 use crate::joining::join_owned;
-use crate::known::least;
-use crate::size::{ValueSize, join, many, product, sum, table};
+use crate::size::{ValueSize, least, many, product, sum, table};
+use crate::wider::join;
 use cel_ops::{Conversion, Operation};
 use cel_overload::Overload;
 use cel_value::CelType;
@@ -121,7 +121,7 @@ fn concat_size(
         → size_view size ≡ concat_size (size_view first.now) (size_view second.now)) }
 {
     let joined = join(alloc, first, second)?;
-    Ok(joined.resized(sum(first.most(), second.most())))
+    joined.resized(alloc, sum(first.most(), second.most()))
 }
 
 /// The size of a list literal of so many items, whose sizes were joined; if it is empty, the least of its type.
@@ -135,7 +135,7 @@ pub(crate) fn list_size(
         → size_view size ≡ list_size (type_view cel_type.now) ss) }
 {
     if count == 0 {
-        return least(alloc, cel_type);
+        return least(cel_type);
     }
     many(alloc, count, items)
 }
@@ -206,7 +206,7 @@ pub(crate) fn map_size(
         → size_view size ≡ map_size (type_view cel_type.now) ss) }
 {
     if keys == 0 {
-        return least(alloc, cel_type);
+        return least(cel_type);
     }
     table(alloc, keys, entries.keys, entries.values)
 }

@@ -1,15 +1,19 @@
 //! Sizes: upper bounds of an expression's answer.
 
-ghost use Rattle.std.specs.Prelude.{◌≡◌, ◌+◌, ◌*◌, ◌↔◌, ℕ, IfOk, IfSome, IsTrue};
+ghost use Rattle.std.specs.Prelude.{◌≡◌, ◌+◌, ◌*◌, ℕ, IfOk};
+ghost use Rattle.cel_value.specs.Types.{type_view};
 ghost use Rattle.cel_costs.specs.Costs.{element_size, key_size, resized, value_size};
-ghost use Rattle.cel_costs.specs.Sizes.{Flat, Many, Size, Table, Text, join, mass_of, most_of};
+ghost use Rattle.cel_costs.specs.Sizes.{Many, Table, least, least_key, mass_of, most_of};
 ghost use Rattle.cost_bound.specs.private.Numbers.{capped};
-ghost use Rattle.cost_bound.specs.private.SizeView.{IsWider, size_view};
+ghost use Rattle.cost_bound.specs.private.SizeView.{least_of_keys, size_view};
 
+use cel_value::{CelType, KeyType};
 use std::alloc::{AllocError, Global};
 use std::rc::Rc;
+use std::sync::Arc;
 
-/// A size: the greatest number of bytes, items or entries, and the sizes of its parts, which are shared.
+/// A size: the greatest number of bytes, items or entries, and the sizes of its parts, which are shared. The size of empty
+/// lists and maps shares their type, so it takes no memory of its own.
 #[derive(Drop)]
 #[cycle(size)]
 pub(crate) enum ValueSize {
@@ -21,14 +25,19 @@ pub(crate) enum ValueSize {
     Many(u64, Rc<ValueSize>),
     /// A map of at most so many entries.
     Table(u64, Rc<TableParts>),
+    /// A list of no items, which would have the least size of this type.
+    NoItems(Arc<CelType>),
+    /// A map of no entries, whose values would have the least size of this type. Its keys are texts, unless the number is 0.
+    /// A number, since a copy of a `KeyType` would be a store more for each size.
+    NoEntries(u64, Arc<CelType>),
 }
 
 /// The sizes of a map's keys and of its values.
 #[derive(Drop)]
 #[cycle(size)]
 pub(crate) struct TableParts {
-    keys: ValueSize,
-    values: ValueSize,
+    pub(crate) keys: ValueSize,
+    pub(crate) values: ValueSize,
 }
 
 impl ValueSize {
@@ -41,6 +50,8 @@ impl ValueSize {
             ValueSize::Text(most) => Ok(ValueSize::Text(*most)),
             ValueSize::Many(most, items) => Ok(ValueSize::Many(*most, items.clone()?)),
             ValueSize::Table(most, parts) => Ok(ValueSize::Table(*most, parts.clone()?)),
+            ValueSize::NoItems(items) => Ok(ValueSize::NoItems(items.clone()?)),
+            ValueSize::NoEntries(keys, values) => Ok(ValueSize::NoEntries(*keys, values.clone()?)),
         }
     }
 
@@ -54,6 +65,8 @@ impl ValueSize {
             ValueSize::Text(most) => *most,
             ValueSize::Many(most, _) => *most,
             ValueSize::Table(most, _) => *most,
+            ValueSize::NoItems(_) => 0,
+            ValueSize::NoEntries(_, _) => 0,
         }
     }
 
@@ -71,6 +84,8 @@ impl ValueSize {
                     product(*most, sum(parts.keys.mass(), parts.values.mass())),
                 )
             }
+            ValueSize::NoItems(_) => 1,
+            ValueSize::NoEntries(_, _) => 1,
         }
     }
 
@@ -81,6 +96,8 @@ impl ValueSize {
         match self {
             ValueSize::Many(_, items) => items.copy(),
             ValueSize::Table(_, parts) => parts.keys.copy(),
+            ValueSize::NoItems(items) => least(items),
+            ValueSize::NoEntries(keys, _) => Ok(least_key(keys_of(*keys))),
             ValueSize::Flat => Ok(ValueSize::Flat),
             ValueSize::Text(_) => Ok(ValueSize::Flat),
         }
@@ -95,6 +112,8 @@ impl ValueSize {
             ValueSize::Text(_) => Ok(ValueSize::Flat),
             ValueSize::Many(_, _) => Ok(ValueSize::Flat),
             ValueSize::Table(_, parts) => parts.keys.copy(),
+            ValueSize::NoItems(_) => Ok(ValueSize::Flat),
+            ValueSize::NoEntries(keys, _) => Ok(least_key(keys_of(*keys))),
         }
     }
 
@@ -105,20 +124,26 @@ impl ValueSize {
         match self {
             ValueSize::Many(_, items) => items.copy(),
             ValueSize::Table(_, parts) => parts.values.copy(),
+            ValueSize::NoItems(items) => least(items),
+            ValueSize::NoEntries(_, values) => least(values),
             ValueSize::Flat => Ok(ValueSize::Flat),
             ValueSize::Text(_) => Ok(ValueSize::Flat),
         }
     }
 
     /// The size with another number of bytes, items or entries.
-    pub(crate) fn resized(self, most: u64) -> ValueSize
-        ensures { size_view result ≡ resized most (size_view self) }
+    pub(crate) fn resized(self, alloc: Global, most: u64) -> Result<ValueSize, AllocError>
+        ensures { IfOk result (λ size. size_view size ≡ resized most (size_view self)) }
     {
         match self {
-            ValueSize::Flat => ValueSize::Flat,
-            ValueSize::Text(_) => ValueSize::Text(most),
-            ValueSize::Many(_, items) => ValueSize::Many(most, items),
-            ValueSize::Table(_, parts) => ValueSize::Table(most, parts),
+            ValueSize::Flat => Ok(ValueSize::Flat),
+            ValueSize::Text(_) => Ok(ValueSize::Text(most)),
+            ValueSize::Many(_, items) => Ok(ValueSize::Many(most, items)),
+            ValueSize::Table(_, parts) => Ok(ValueSize::Table(most, parts)),
+            ValueSize::NoItems(items) => many(alloc, most, least(&items)?),
+            ValueSize::NoEntries(keys, values) => {
+                table(alloc, most, least_key(keys_of(keys)), least(&values)?)
+            }
         }
     }
 }
@@ -135,228 +160,6 @@ pub(crate) fn product(left: u64, right: u64) -> u64
     ensures { (m n : ℕ) → left ≡ capped m → right ≡ capped n → result ≡ capped (m * n) }
 {
     left.saturating_mul(right)
-}
-
-/// The join of two sizes, which has room for the values of both: the greater of each part. If one
-/// size has room for both, the result is a copy of it, which shares its parts.
-#[cycle(join)]
-pub(crate) fn join(
-    alloc: Global,
-    left: &ValueSize,
-    right: &ValueSize,
-) -> Result<ValueSize, AllocError>
-    ensures { IfOk result (λ size. size_view size ≡ join (size_view left.now) (size_view right.now)) }
-{
-    if covers(left, right) {
-        return left.copy();
-    }
-    if covers(right, left) {
-        return right.copy();
-    }
-    wider_of(alloc, left, right)?.joined(left, right)
-}
-
-/// Whether a size has room for all that another has room for. May say no for sizes of two kinds.
-pub(crate) fn covers(size: &ValueSize, other: &ValueSize) -> bool
-    ensures before { IsTrue result → join (size_view size.now) (size_view other.now) ≡ size_view size.now }
-    ensures behind { IsTrue result → join (size_view other.now) (size_view size.now) ≡ size_view size.now }
-{
-    match (size, other) {
-        (_, ValueSize::Flat) => true,
-        (ValueSize::Text(n), ValueSize::Text(m)) => n >= m,
-        (ValueSize::Many(n, a), ValueSize::Many(m, b)) => n >= m && covers(a, b),
-        (ValueSize::Table(n, a), ValueSize::Table(m, b)) => {
-            n >= m && covers(&a.keys, &b.keys) && covers(&a.values, &b.values)
-        }
-        _ => false,
-    }
-}
-
-/// Which of two sizes has room for both; if neither has, their join.
-#[derive(Drop)]
-enum Wider {
-    Both,
-    Left,
-    Right,
-    Neither(ValueSize),
-}
-
-impl Wider {
-    fn is_left(&self) -> bool
-        ensures { (s t : Size) → IsTrue result → IsWider self.now s t → join s t ≡ s }
-    {
-        matches!(self, Wider::Both | Wider::Left)
-    }
-
-    fn is_right(&self) -> bool
-        ensures { (s t : Size) → IsTrue result → IsWider self.now s t → join s t ≡ t }
-    {
-        matches!(self, Wider::Both | Wider::Right)
-    }
-
-    // The join of the sizes of which this tells.
-    fn joined(self, left: &ValueSize, right: &ValueSize) -> Result<ValueSize, AllocError>
-        requires { IsWider self (size_view left.now) (size_view right.now) }
-        ensures { IfOk result (λ size. size_view size ≡ join (size_view left.now) (size_view right.now)) }
-    {
-        match self {
-            Wider::Both | Wider::Left => left.copy(),
-            Wider::Right => right.copy(),
-            Wider::Neither(size) => Ok(size),
-        }
-    }
-}
-
-// Whether both left parts of two maps' sizes have room for both. The next one asks the same of the right parts.
-fn are_left(keys: &Wider, values: &Wider) -> bool
-    ensures { (k j v w : Size) → IsTrue result → IsWider keys.now k j → IsWider values.now v w
-        → (join k j ≡ k) × (join v w ≡ v) }
-{
-    keys.is_left() && values.is_left()
-}
-
-fn are_right(keys: &Wider, values: &Wider) -> bool
-    ensures { (k j v w : Size) → IsTrue result → IsWider keys.now k j → IsWider values.now v w
-        → (join k j ≡ j) × (join v w ≡ w) }
-{
-    keys.is_right() && values.is_right()
-}
-
-// The answer for two sizes of which the left one, the right one or both are known to have room for both.
-fn known_wider(left: bool, right: bool) -> Option<Wider>
-    ensures { (s t : Size) → (IsTrue left → join s t ≡ s) → (IsTrue right → join s t ≡ t)
-        → IfSome result (λ wider. IsWider wider s t) }
-{
-    match (left, right) {
-        (true, true) => Some(Wider::Both),
-        (true, false) => Some(Wider::Left),
-        (false, true) => Some(Wider::Right),
-        (false, false) => None,
-    }
-}
-
-// Goes over the parts of both sizes once.
-#[cycle(join)]
-fn wider_of(alloc: Global, left: &ValueSize, right: &ValueSize) -> Result<Wider, AllocError>
-    ensures { IfOk result (λ wider. IsWider wider (size_view left.now) (size_view right.now)) }
-{
-    match (left, right) {
-        (_, ValueSize::Flat) => Ok(Wider::Left),
-        (ValueSize::Flat, _) => Ok(Wider::Right),
-        (ValueSize::Text(most), ValueSize::Text(other)) => Ok(wider_text(*most, *other)),
-        (ValueSize::Many(most, items), ValueSize::Many(other, others)) => {
-            wider_many(alloc, *most, *other, items, others)
-        }
-        (ValueSize::Table(most, parts), ValueSize::Table(other, others)) => {
-            let first = wider_of(alloc, &parts.keys, &others.keys)?;
-            let second = wider_of(alloc, &parts.values, &others.values)?;
-            let left = *most >= *other && are_left(&first, &second);
-            let right = *other >= *most && are_right(&first, &second);
-            if let Some(known) = known_wider(left, right) {
-                return Ok(known);
-            }
-            let keys = first.joined(&parts.keys, &others.keys)?;
-            let values = second.joined(&parts.values, &others.values)?;
-            Ok(Wider::Neither(table(alloc, (*most).max(*other), keys, values)?))
-        }
-        _ => Ok(Wider::Neither(join_parts(alloc, left, right)?)),
-    }
-}
-
-// The same for two lists' sizes.
-#[cycle(join)]
-fn wider_many(
-    alloc: Global,
-    most: u64,
-    other: u64,
-    items: &ValueSize,
-    others: &ValueSize,
-) -> Result<Wider, AllocError>
-    ensures { IfOk result (λ wider. IsWider wider (Many most (size_view items.now))
-        (Many other (size_view others.now))) }
-{
-    let part = wider_of(alloc, items, others)?;
-    let left = most >= other && part.is_left();
-    let right = other >= most && part.is_right();
-    if let Some(known) = known_wider(left, right) {
-        return Ok(known);
-    }
-    let joined = part.joined(items, others)?;
-    Ok(Wider::Neither(many(alloc, most.max(other), joined)?))
-}
-
-fn wider_text(most: u64, other: u64) -> Wider
-    ensures { IsWider result (Text most) (Text other) }
-{
-    if most >= other {
-        return Wider::Left;
-    }
-    Wider::Right
-}
-
-// Joins two sizes part by part.
-#[cycle(join)]
-fn join_parts(alloc: Global, left: &ValueSize, right: &ValueSize) -> Result<ValueSize, AllocError>
-    ensures { IfOk result (λ size. size_view size ≡ join (size_view left.now) (size_view right.now)) }
-{
-    match left {
-        ValueSize::Flat => right.copy(),
-        ValueSize::Text(most) => join_text(*most, right),
-        ValueSize::Many(most, items) => match right {
-            ValueSize::Flat => left.copy(),
-            ValueSize::Text(other) => Ok(ValueSize::Many((*most).max(*other), items.clone()?)),
-            ValueSize::Many(other, others) => {
-                many(alloc, (*most).max(*other), join(alloc, items, others)?)
-            }
-            ValueSize::Table(other, parts) => table_of(
-                alloc,
-                (*most).max(*other),
-                join(alloc, items, &parts.keys),
-                join(alloc, items, &parts.values),
-            ),
-        },
-        ValueSize::Table(most, parts) => match right {
-            ValueSize::Flat => left.copy(),
-            ValueSize::Text(other) => Ok(ValueSize::Table((*most).max(*other), parts.clone()?)),
-            ValueSize::Many(other, items) => table_of(
-                alloc,
-                (*most).max(*other),
-                join(alloc, &parts.keys, items),
-                join(alloc, &parts.values, items),
-            ),
-            ValueSize::Table(other, others) => table_of(
-                alloc,
-                (*most).max(*other),
-                join(alloc, &parts.keys, &others.keys),
-                join(alloc, &parts.values, &others.values),
-            ),
-        },
-    }
-}
-
-// The size of maps of these keys and values, if memory sufficed for both.
-fn table_of(
-    alloc: Global,
-    most: u64,
-    keys: Result<ValueSize, AllocError>,
-    values: Result<ValueSize, AllocError>,
-) -> Result<ValueSize, AllocError>
-    ensures { (k v : Size) → IfOk keys (λ size. size_view size ≡ k) → IfOk values (λ size. size_view size ≡ v)
-        → IfOk result (λ size. size_view size ≡ Table most k v) }
-{
-    let keys = keys?;
-    table(alloc, most, keys, values?)
-}
-
-fn join_text(most: u64, right: &ValueSize) -> Result<ValueSize, AllocError>
-    ensures { IfOk result (λ size. size_view size ≡ join (Text most) (size_view right.now)) }
-{
-    match right {
-        ValueSize::Flat => Ok(ValueSize::Text(most)),
-        ValueSize::Text(other) => Ok(ValueSize::Text(most.max(*other))),
-        ValueSize::Many(other, items) => Ok(ValueSize::Many(most.max(*other), items.clone()?)),
-        ValueSize::Table(other, parts) => Ok(ValueSize::Table(most.max(*other), parts.clone()?)),
-    }
 }
 
 /// The size of lists of at most so many items, of this size each.
@@ -379,17 +182,53 @@ pub(crate) fn table(
     Ok(ValueSize::Table(most, Rc::new(alloc, parts)?))
 }
 
-/// Whether two sizes are the same.
-pub(crate) fn same(left: &ValueSize, right: &ValueSize) -> bool
-    ensures { IsTrue result ↔ (size_view left.now ≡ size_view right.now) }
+/// The least size of a type. It shares the type's parts.
+pub(crate) fn least(cel_type: &CelType) -> Result<ValueSize, AllocError>
+    ensures { IfOk result (λ size. size_view size ≡ least (type_view cel_type.now)) }
 {
-    match (left, right) {
-        (ValueSize::Flat, ValueSize::Flat) => true,
-        (ValueSize::Text(n), ValueSize::Text(m)) => n == m,
-        (ValueSize::Many(n, a), ValueSize::Many(m, b)) => n == m && same(a, b),
-        (ValueSize::Table(n, a), ValueSize::Table(m, b)) => {
-            n == m && same(&a.keys, &b.keys) && same(&a.values, &b.values)
+    match cel_type {
+        CelType::Bool => Ok(ValueSize::Flat),
+        CelType::Int => Ok(ValueSize::Flat),
+        CelType::Uint => Ok(ValueSize::Flat),
+        CelType::Text => Ok(ValueSize::Text(0)),
+        CelType::Bytes => Ok(ValueSize::Text(0)),
+        CelType::List(items) => Ok(ValueSize::NoItems(items.clone()?)),
+        CelType::Map(keys, values) => {
+            Ok(ValueSize::NoEntries(number_of(*keys), values.clone()?))
         }
-        _ => false,
+    }
+}
+
+// The number of a type of keys in a size: 0 unless they are texts.
+fn number_of(keys: KeyType) -> u64
+    ensures { least_of_keys result ≡ least_key keys }
+{
+    match keys {
+        KeyType::Bool => 0,
+        KeyType::Int => 0,
+        KeyType::Uint => 0,
+        KeyType::Text => 1,
+    }
+}
+
+/// A type of keys with this number.
+pub(crate) fn keys_of(number: u64) -> KeyType
+    ensures { least_key result ≡ least_of_keys number }
+{
+    if number == 0 {
+        return KeyType::Bool;
+    }
+    KeyType::Text
+}
+
+/// The least size of a type of keys.
+pub(crate) fn least_key(keys: KeyType) -> ValueSize
+    ensures { size_view result ≡ least_key keys }
+{
+    match keys {
+        KeyType::Bool => ValueSize::Flat,
+        KeyType::Int => ValueSize::Flat,
+        KeyType::Uint => ValueSize::Flat,
+        KeyType::Text => ValueSize::Text(0),
     }
 }

@@ -1,11 +1,12 @@
 -- The sizes that values of the code mean.
-use Rattle.std.specs.Prelude.{◌≡◌, List, [], ◌∷◌, map, Option, Some, None}
+use Rattle.std.specs.Prelude.{◌≡◌, ℕ, zero, suc, List, [], ◌∷◌, map, Option, Some, None}
 use Rattle.cel_costs.specs.Costs.{join_all, keys_of, masses, values_of}
-use Rattle.cel_costs.specs.Sizes.{Size, Flat, Text, Many, Table, join}
+use Rattle.cel_costs.specs.Sizes.{Size, Flat, Text, Many, Table, join, least}
+use Rattle.cel_value.specs.Types.{type_view}
 use Rattle.cost_bound.specs.private.Numbers.{capped}
 use Rattle.cost_bound.specs.declared.made.Entries.{Entries}
-use Rattle.cost_bound.specs.declared.size.Wider.{Wider}
-use Rattle.cost_bound.specs.declared.size.Wider.TheVariants as widers
+use Rattle.cost_bound.specs.declared.wider.Wider.{Wider}
+use Rattle.cost_bound.specs.declared.wider.Wider.TheVariants as widers
 use Rattle.cost_bound.specs.declared.size.ValueSize.{ValueSize, fold-ValueSize}
 use Rattle.cost_bound.specs.declared.size.ValueSize.TheOpen.{ValueSize-F, TableParts-F}
 use Rattle.cost_bound.specs.declared.variables.VariableSizes.{VariableSizes}
@@ -15,12 +16,19 @@ pub record PartSizes : Type 0 where
   pub keys : Size
   pub values : Size
 
+-- the least size of keys by their number: of texts, unless it is 0
+abbrev pub least_of_keys : ℕ → Size
+least_of_keys zero = Flat
+least_of_keys (suc n) = Text 0
+
 -- one level of a size, whose inner sizes are already translated
 abbrev pub size_level : ValueSize-F Size PartSizes → Size
 size_level ValueSize-F.Flat = Flat
 size_level (ValueSize-F.Text n) = Text n
 size_level (ValueSize-F.Many n e) = Many n e.value
 size_level (ValueSize-F.Table n p) = Table n p.value.keys p.value.values
+size_level (ValueSize-F.NoItems t) = Many 0 (least (type_view t.value))
+size_level (ValueSize-F.NoEntries k t) = Table 0 (least_of_keys k) (least (type_view t.value))
 
 -- one level of a map's parts, whose sizes are already translated
 abbrev pub parts_level : TableParts-F Size PartSizes → PartSizes
