@@ -1,2 +1,4 @@
 pub mod Answers
 pub mod Messages
+pub mod Replies
+pub mod private

@@ -1,6 +1,6 @@
 -- The one message of a unary call (gRPC's PROTOCOL-HTTP2, Length-Prefixed-Message), and how a call ends without one (gRPC's status
 -- codes). A compression or a number of messages that is not served is UNIMPLEMENTED, a broken message is INTERNAL.
-use Rattle.std.specs.Prelude.{◌≡◌, ◌<◌, ℕ, ◌+◌, ◌*◌, ◌==◌, nat_lt, Bool, Result, Ok, Err, List, [], ◌∷◌, ◌++◌, length, drop, codes, if◌then◌else◌}
+use Rattle.std.specs.Prelude.{ℕ, ◌==◌, nat_lt, Result, Ok, Err, List, [], ◌∷◌, length, drop, codes, if◌then◌else◌}
 use Rattle.hpack.specs.Field.{Line, line}
 use Rattle.http2.specs.Frame.{word_at}
 use Rattle.grpc_server.specs.declared.message.StatusCode.{StatusCode}

@@ -29,11 +29,16 @@ pub struct Reply {
 }
 
 impl Reply {
-    ghost use Rattle.std.specs.Prelude.{◌<◌, ◌^◌, length};
+    ghost use Rattle.std.specs.Prelude.{◌≡◌, ◌≤◌, ◌<◌, ◌⊎◌, ◌^◌, List, ℕ, [], Ok, true, false, IfOk, OnOk, length};
+    ghost use Rattle.grpc_server.specs.Messages.{message_in};
+    ghost use Rattle.grpc_server.specs.Replies.{IsFresh, Writes};
+    ghost use Rattle.grpc_server.specs.private.Replying.{Begins, Sends, IsStuck};
+    ghost use Rattle.grpc_server.specs.declared.message.StatusCode.TheVariants.{Done};
 
     /// The answer that is this message.
     pub fn message(alloc: Global, stream: u32, message: &[u8]) -> Result<Reply, AllocError>
         requires { length message.now < 2 ^ 32 }
+        ensures { IfOk result (λ r. (content : List ℕ) × (message_in content ≡ Ok message.now) × IsFresh stream content Done r) }
     {
         Ok(Reply {
             stream,
@@ -45,7 +50,9 @@ impl Reply {
     }
 
     /// The answer that has no message, and ends with this code.
-    pub fn code(alloc: Global, stream: u32, code: StatusCode) -> Reply {
+    pub fn code(alloc: Global, stream: u32, code: StatusCode) -> Reply
+        ensures { IsFresh stream [] code result }
+    {
         Reply {
             stream,
             content: Vec::new(alloc),
@@ -56,18 +63,41 @@ impl Reply {
     }
 
     /// Writes as much as the client's windows and the bytes that wait allow.
-    pub fn write(&mut self, alloc: Global, server: &mut UnaryServer) -> Result<Written, Fault> {
-        if !self.begun {
-            let fields = opening(alloc)?;
-            match server.answer(alloc, self.stream, &fields)? {
-                Answering::Written => self.begun = true,
-                Answering::Waits => return Ok(Written::Part),
-                Answering::Gone => return Ok(Written::Gone),
+    pub fn write(&mut self, alloc: Global, server: &mut UnaryServer) -> Result<Written, Fault>
+        ensures { Writes self.old self.new server.old server.new result }
+    {
+        if self.begun {
+            return self.go_on(alloc, server);
+        }
+        match self.begin(alloc, server)? {
+            Answering::Written => self.go_on(alloc, server),
+            Answering::Waits => Ok(Written::Part),
+            Answering::Gone => Ok(Written::Gone),
+        }
+    }
+
+    // Writes the fields that begin the answer.
+    fn begin(&mut self, alloc: Global, server: &mut UnaryServer) -> Result<Answering, Fault>
+        requires { self.old.begun ≡ false }
+        ensures { Begins self.old self.new server.old server.new result }
+    {
+        let fields = opening(alloc)?;
+        match server.answer(alloc, self.stream, &fields)? {
+            Answering::Written => {
+                self.begun = true;
+                Ok(Answering::Written)
             }
+            Answering::Waits => Ok(Answering::Waits),
+            Answering::Gone => Ok(Answering::Gone),
         }
-        if self.at < self.content.len() {
-            self.say(alloc, server)?;
-        }
+    }
+
+    // Writes what follows the fields that begin the answer.
+    fn go_on(&mut self, alloc: Global, server: &mut UnaryServer) -> Result<Written, Fault>
+        requires { self.old.begun ≡ true }
+        ensures { Writes self.old self.new server.old server.new result }
+    {
+        self.say(alloc, server)?;
         if self.at < self.content.len() {
             return Ok(if server.is_due(self.stream) {
                 Written::Part
@@ -84,13 +114,16 @@ impl Reply {
     }
 
     // Writes content, frame after frame.
-    fn say(&mut self, alloc: Global, server: &mut UnaryServer) -> Result<(), Fault> {
+    fn say(&mut self, alloc: Global, server: &mut UnaryServer) -> Result<(), Fault>
+        ensures sends { Sends self.old self.new server.old server.new }
+        ensures all { OnOk result ((length self.old.content.items ≤ self.new.at) ⊎ IsStuck self.old.stream server.new) }
+    {
         'frames: while self.at < self.content.len() {
             let count = server.say(alloc, self.stream, &self.content[self.at..])?;
             if count == 0 {
                 return Ok(());
             }
-            self.at = self.at.saturating_add(count);
+            self.at += count;
         }
         Ok(())
     }

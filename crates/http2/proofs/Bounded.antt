@@ -266,20 +266,19 @@ found_bounded c (Some s) is = roomy c is.0
 bounds_puts : (c : ExchangeValue) (frame : List ℕ) (after : ExchangeValue) → IsBounded c → Puts c frame after → IsBounded after
 bounds_puts c frame after is (puts.fields can kind flags same) =
     rw same (changed_headed (beside c (stream_of frame)) (find (stream_of frame) c.streams) (found c (stream_of frame) is))
-bounds_puts c frame after is (puts.content within kind flags same) =
+bounds_puts c frame after is (puts.content some within kind flags same) =
     let next = changed_charged (beside c (stream_of frame)) (flow_of frame) (find (stream_of frame) c.streams) (found c (stream_of frame) is) in
     rw same (record { few = next.few; calm = next.calm; short = next.short })
 bounds_puts c frame after is (puts.trailers can kind flags same) =
     let next = found_bounded (beside c (stream_of frame)) (find (stream_of frame) c.streams) (found c (stream_of frame) is) in
     let calm = next.calm in
     rw same (record { few = next.few; calm = omega (arith, calm); short = next.short })
-bounds_puts c frame after is (puts.window kind flags stream within same) = rw same (record { few = is.few; calm = is.calm; short = is.short })
+bounds_puts c frame after is (puts.window some kind flags stream within same) = rw same (record { few = is.few; calm = is.calm; short = is.short })
 bounds_puts c frame after is (puts.answer answers same) = rw same is
-bounds_puts c frame after is (puts.away kind stream same) = rw same is
 
-pub comes_bounded : (trail : List Step) (c : ExchangeValue) (calls : List CallValue) (owed : List Parts) → Comes trail c calls owed → IsBounded c
-comes_bounded [] c calls owed comes = rw comes.0 (record { few = omega arith; calm = omega arith; short = tt })
-comes_bounded (got frame ∷ trail) c calls owed comes =
-    bounds_takes comes.0 frame (on c comes.3) (comes_bounded trail comes.0 comes.1 comes.2 comes.4) comes.5
-comes_bounded (put frame ∷ trail) c calls owed comes =
-    bounds_puts comes.0 frame c (comes_bounded trail comes.0 calls owed comes.1) comes.2
+pub comes_bounded : (most : ℕ) (trail : List Step) (c : ExchangeValue) (calls : List CallValue) (owed : List Parts) → Comes most trail c calls owed → IsBounded c
+comes_bounded most [] c calls owed comes = rw comes.0 (record { few = omega arith; calm = omega arith; short = tt })
+comes_bounded most (got frame ∷ trail) c calls owed comes =
+    bounds_takes comes.0 frame (on c comes.3) (comes_bounded most trail comes.0 comes.1 comes.2 comes.4) comes.5
+comes_bounded most (put frame ∷ trail) c calls owed comes =
+    bounds_puts comes.0 frame c (comes_bounded most trail comes.0 calls owed comes.1) comes.2

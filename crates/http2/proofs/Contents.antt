@@ -16,11 +16,12 @@ use Rattle.http2.specs.Exchange.{ExchangeValue, first_exchange, Event, quiet, re
 use Rattle.http2.specs.Exchanged.{calls_in, welcomed, changed, headed, charged, closed, Puts, Comes, Goes, IsOver}
 use Rattle.http2.specs.Exchanged as puts
 use Rattle.http2.specs.Separate.{IsOf}
-use Rattle.http2.specs.Contents.{HasItsData}
+use Rattle.http2.specs.Contents.{is_last, has_ended, HasItsData}
 use Rattle.http2.specs.Unary.{UnaryValue, IsAt, UnaryLaw}
 use Rattle.http2.specs.declared.fault.Code.{Code}
 use Rattle.http2.specs.declared.fault.Fault.{Fault}
 use Rattle.http2.proofs.Calls.{none_some}
+use Rattle.http2.proofs.Ended.{Asked, came_whole, same_end}
 use Rattle.http2.proofs.Frames.{other_data}
 use Rattle.http2.proofs.Separate.{Beside, find_others, find_more, NumberIs, number_found, keeps_others}
 
@@ -596,7 +597,7 @@ holds_puts : (trail : List Step) (b c : ExchangeValue) (frame : List ℕ) → Ho
 holds_puts trail b c frame holds (puts.fields can kind flags same) =
     holds_changed trail b c frame headed (λ s. refl) (λ s. refl) (ap (λ (e : ExchangeValue). e.streams) same)
     (ap (λ (e : ExchangeValue). e.last) same) holds
-holds_puts trail b c frame holds (puts.content within kind flags same) =
+holds_puts trail b c frame holds (puts.content some within kind flags same) =
     holds_changed trail b c frame (charged (flow_of frame)) (λ s. refl) (λ s. refl) (ap (λ (e : ExchangeValue). e.streams) same)
     (ap (λ (e : ExchangeValue). e.last) same) holds
 holds_puts trail b c frame holds (puts.trailers can kind flags same) =
@@ -609,23 +610,22 @@ holds_puts trail b c frame holds (puts.trailers can kind flags same) =
     (holds_next trail (put frame ∷ trail) b after n holds (λ m ne. find_others m n b.streams ne)
     (out_own n b.last (data_got n trail) after (record { distinct = out.distinct; higher = out.higher; none = out.none }))
     (λ m ne. refl) (λ m idle. refl))
-holds_puts trail b c frame holds (puts.window kind flags stream within same) =
+holds_puts trail b c frame holds (puts.window some kind flags stream within same) =
     holds_same trail (put frame ∷ trail) b c (ap (λ (e : ExchangeValue). e.streams) same) (ap (λ (e : ExchangeValue). e.last) same) (λ m. refl) holds
 holds_puts trail b c frame holds (puts.answer answers same) =
-    holds_same trail (put frame ∷ trail) b c (ap (λ (e : ExchangeValue). e.streams) same) (ap (λ (e : ExchangeValue). e.last) same) (λ m. refl) holds
-holds_puts trail b c frame holds (puts.away kind stream same) =
     holds_same trail (put frame ∷ trail) b c (ap (λ (e : ExchangeValue). e.streams) same) (ap (λ (e : ExchangeValue). e.last) same) (λ m. refl) holds
 
 -- ---- the calls
 
 -- a call has its data in a longer trail
 later_call : (steps trail : List Step) (call : CallValue) → HasItsData trail call → HasItsData (steps ++ trail) call
-later_call steps trail call (later, before, frame, is, stream, has) = (
+later_call steps trail call (later, before, frame, is, stream, last, has) = (
   steps ++ later,
   before,
   frame,
   ap (λ (t : List Step). steps ++ t) is ∙ sym (append_assoc steps later (got frame ∷ before)),
   stream,
+  last,
   has,
 )
 
@@ -644,16 +644,17 @@ all_first P (x ∷ xs) ys (first, are) = (first, all_first P xs ys are)
 
 -- the call that a frame made whole
 call_in : (trail : List Step) (frame : List ℕ) (event : Event) → IsOf (stream_of frame) event
-    → EventHas (data_got (stream_of frame) (got frame ∷ trail)) event → AllByRecursion (HasItsData (got frame ∷ trail)) (calls_in event)
-call_in trail frame quiet is has = tt
-call_in trail frame (resets stream code) is has = tt
-call_in trail frame (asks call) is has = (
+    → EventHas (data_got (stream_of frame) (got frame ∷ trail)) event → Asked (has_ended (got frame ∷ trail)) event → AllByRecursion (HasItsData (got frame ∷ trail)) (calls_in event)
+call_in trail frame quiet is has last = tt
+call_in trail frame (resets stream code) is has last = tt
+call_in trail frame (asks call) is has last = (
   (
     [],
     trail,
     frame,
     refl,
     sym is,
+    last,
     has ∙ ap (λ (k : ℕ). data_got k (got frame ∷ trail)) (sym is),
   ),
   tt,
@@ -667,23 +668,24 @@ begins_so most = record {
   has = λ n. tt;
 }
 
-comes_have : (trail : List Step) (c : ExchangeValue) (calls : List CallValue) (owed : List Parts) → Comes trail c calls owed
+comes_have : (most : ℕ) (trail : List Step) (c : ExchangeValue) (calls : List CallValue) (owed : List Parts) → Comes most trail c calls owed
     → Holds trail c × AllByRecursion (HasItsData trail) calls
-comes_have [] c calls owed comes = (
-  subst (λ (e : ExchangeValue). Holds [] e) (sym comes.0) (begins_so c.most),
+comes_have most [] c calls owed comes = (
+  subst (λ (e : ExchangeValue). Holds [] e) (sym comes.0) (begins_so most),
   subst (λ (cs : List CallValue). AllByRecursion (HasItsData []) cs) (sym comes.1) tt,
 )
-comes_have (got frame ∷ trail) c calls owed (b, earlier, before, event, comes, takes, calls_are, owed_is) =
-    let past = comes_have trail b earlier before comes in
+comes_have most (got frame ∷ trail) c calls owed (b, earlier, before, event, comes, takes, calls_are, owed_is) =
+    let past = comes_have most trail b earlier before comes in
     let next = holds_takes trail b c frame event past.0 takes in
-    let of_it = (keeps_others b frame (on c event) takes).1 in (
+    let of_it = (keeps_others b frame (on c event) takes).1 in
+    let last = came_whole most trail b c frame event earlier before comes takes in (
       next.0,
       subst (λ (cs : List CallValue). AllByRecursion (HasItsData (got frame ∷ trail)) cs) (sym calls_are)
           (all_more (HasItsData (got frame ∷ trail)) earlier (calls_in event)
-          (later_calls (got frame ∷ []) trail earlier past.1) (call_in trail frame event of_it next.1)),
+          (later_calls (got frame ∷ []) trail earlier past.1) (call_in trail frame event of_it next.1 last)),
     )
-comes_have (put frame ∷ trail) c calls owed (b, comes, written) =
-    let past = comes_have trail b calls owed comes in
+comes_have most (put frame ∷ trail) c calls owed (b, comes, written) =
+    let past = comes_have most trail b calls owed comes in
     (holds_puts trail b c frame past.0 written, later_calls (put frame ∷ []) trail calls past.1)
 
 -- what is said first brings no data
@@ -693,12 +695,13 @@ same_data n (got frame ∷ trail) = ap (λ (d : List ℕ). d ++ data_on n frame)
 same_data n (put frame ∷ trail) = same_data n trail
 
 welcomed_call : (trail : List Step) (call : CallValue) → HasItsData trail call → HasItsData (trail ++ welcomed) call
-welcomed_call trail call (later, before, frame, is, stream, has) = (
+welcomed_call trail call (later, before, frame, is, stream, last, has) = (
   later,
   before ++ welcomed,
   frame,
   ap (λ (t : List Step). t ++ welcomed) is ∙ append_assoc later (got frame ∷ before) welcomed,
   stream,
+  ap (λ (b : Bool). if kind_of frame == 9 then b else is_last frame) (same_end before) ∙ last,
   has ∙ ap (λ (d : List ℕ). d ++ data_on call.stream frame) (sym (same_data call.stream before)),
 )
 
@@ -707,20 +710,20 @@ welcomed_calls : (trail : List Step) (calls : List CallValue) → AllByRecursion
 welcomed_calls trail [] have = tt
 welcomed_calls trail (call ∷ calls) (first, have) = (welcomed_call trail call first, welcomed_calls trail calls have)
 
-goes_have : (trail : List Step) (c : ExchangeValue) (calls : List CallValue) → Goes trail c calls → AllByRecursion (HasItsData trail) calls
-goes_have trail c calls (later, is, comes) =
+goes_have : (most : ℕ) (trail : List Step) (c : ExchangeValue) (calls : List CallValue) → Goes most trail c calls → AllByRecursion (HasItsData trail) calls
+goes_have most trail c calls (later, is, comes) =
     subst (λ (t : List Step). AllByRecursion (HasItsData t) calls) (sym is)
-    (welcomed_calls later calls (comes_have later c calls (answered later) comes).1)
+    (welcomed_calls later calls (comes_have most later c calls (answered later) comes).1)
 
-is_have : (trail : List Step) (gave : List CallValue) (u : UnaryValue) (o : Option Fault) → IsAt trail gave u o
+is_have : (most : ℕ) (trail : List Step) (gave : List CallValue) (u : UnaryValue) (o : Option Fault) → IsAt most trail gave u o
     → AllByRecursion (HasItsData trail) gave
-is_have trail gave u None is = all_first (HasItsData trail) gave u.calls (goes_have trail u.exchange (gave ++ u.calls) is)
-is_have trail gave u (Some f) is =
+is_have most trail gave u None is = all_first (HasItsData trail) gave u.calls (goes_have most trail u.exchange (gave ++ u.calls) is)
+is_have most trail gave u (Some f) is =
     let have = later_calls is.away (is.came ++ is.before) (gave ++ is.more)
-    (later_calls is.came is.before (gave ++ is.more) (goes_have is.before is.c (gave ++ is.more) is.goes)) in
+    (later_calls is.came is.before (gave ++ is.more) (goes_have most is.before is.c (gave ++ is.more) is.goes)) in
     all_first (HasItsData trail) gave is.more
     (subst (λ (t : List Step). AllByRecursion (HasItsData t) (gave ++ is.more)) (sym is.whole) have)
 
-pub calls_have_their_data : (trail : List Step) (came sent : List ℕ) (gave : List CallValue) (u : UnaryValue)
-    → UnaryLaw trail came sent gave u → AllByRecursion (HasItsData trail) gave
-calls_have_their_data trail came sent gave u law = is_have trail gave u u.over law.is
+pub calls_have_their_data : (most : ℕ) (trail : List Step) (came sent : List ℕ) (gave : List CallValue) (u : UnaryValue)
+    → UnaryLaw most trail came sent gave u → AllByRecursion (HasItsData trail) gave
+calls_have_their_data most trail came sent gave u law = is_have most trail gave u u.over law.is

@@ -12,5 +12,6 @@ mod Finding
 mod Writing
 mod Separate
 mod Bounded
+mod Ended
 mod Contents
 pub mod Unaries

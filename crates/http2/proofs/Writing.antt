@@ -54,8 +54,8 @@ reply_answers frame is = answer_by (kind_of frame == 3) frame is
 -- a window that is given back
 pub window_puts : (c after : ExchangeValue) (frame payload : List ℕ) (count : ℕ) → IsFrame frame
     → parts_of frame ≡ record { kind = 8; flags = 0; stream = 0; payload = payload } → length payload ≡ 4 → word_at payload 0 ≡ count
-    → count < 2147483648 → c.credit + count ≤ 1048581 → after ≡ record c { credit = c.credit + count } → Puts c frame after
-window_puts c after frame payload count is are four word few within same =
+    → 0 < count → count < 2147483648 → c.credit + count ≤ 1048581 → after ≡ record c { credit = c.credit + count } → Puts c frame after
+window_puts c after frame payload count is are four word some few within same =
     let kind : kind_of frame ≡ 8 = kind_is frame payload 8 0 0 are in
     let on : stream_of frame ≡ 0 = stream_is frame payload 8 0 0 are in
     let whole : payload_of frame ≡ payload = payload_is frame payload 8 0 0 are in
@@ -64,7 +64,7 @@ window_puts c after frame payload count is are four word few within same =
     let size : size_of frame ≡ 4 = omega (arith, is.whole, long, short) in
     let given : increment_of 0 frame ≡ count =
     this_increment 0 frame count kind on size (ap (λ (p : List ℕ). word_at p 0) whole ∙ word) few in
-    window kind (flags_is frame payload 8 0 0 are) on (omega (arith, given, within))
+    window (omega (arith, some, given)) kind (flags_is frame payload 8 0 0 are) on (omega (arith, given, within))
     (same ∙ ap (λ (n : ℕ). record c { credit = c.credit + n }) (sym given))
 
 -- the fields that begin an answer
@@ -79,14 +79,14 @@ fields_puts c after frame block stream are can same =
 -- content of an answer
 pub content_puts : (c after : ExchangeValue) (frame octets : List ℕ) (stream : ℕ)
     → parts_of frame ≡ record { kind = 0; flags = 0; stream = stream; payload = octets }
-    → length octets ≤ room_on c (find stream c.streams)
+    → 0 < length octets → length octets ≤ room_on c (find stream c.streams)
     → after ≡ record (changed (charged (length octets)) (beside c stream) (find stream c.streams)) { used = c.used + length octets }
     → Puts c frame after
-content_puts c after frame octets stream are within same =
+content_puts c after frame octets stream are some within same =
     let on : stream ≡ stream_of frame = sym (stream_is frame octets 0 0 stream are) in
     let kind : kind_of frame ≡ 0 = kind_is frame octets 0 0 stream are in
     let flow : length octets ≡ flow_of frame = sym (plain_flow frame octets kind (payload_is frame octets 0 0 stream are)) in
-    content (subst (λ (n : ℕ). n ≤ room_on c (find (stream_of frame) c.streams)) flow
+    content (subst (λ (n : ℕ). 0 < n) flow some) (subst (λ (n : ℕ). n ≤ room_on c (find (stream_of frame) c.streams)) flow
     (subst (λ (n : ℕ). length octets ≤ room_on c (find n c.streams)) on within)) kind (flags_is frame octets 0 0 stream are)
     (same ∙ ap₂ (λ (n k : ℕ). record (changed (charged k) (beside c n) (find n c.streams)) { used = c.used + k }) on flow)
 

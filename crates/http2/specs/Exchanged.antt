@@ -1,8 +1,8 @@
 -- A connection of unary calls after the frames of a trail (RFC 9113, 5 and 6). The calls that came whole, what may be written, what
 -- is owed to the client, and why the connection is over.
-use Rattle.std.specs.Prelude.{◌≡◌, ◌≤◌, ◌<◌, ◌-◌, ◌+◌, ℕ, Bool, true, false, not, min, Option, Some, None, is_some, List, [], ◌∷◌, ◌++◌, if◌then◌else◌}
-use Rattle.http2.specs.Frame.{IsFrame, IsTooLarge, kind_of, flags_of, stream_of, Parts, parts_of, flow_of, increment_of}
-use Rattle.http2.specs.Trail.{Step, got, put, window_frame}
+use Rattle.std.specs.Prelude.{◌≡◌, ◌≢◌, ◌≤◌, ◌<◌, ◌-◌, ◌+◌, ℕ, Bool, true, false, not, min, Option, Some, None, is_some, List, [], ◌∷◌, ◌++◌, length, take, drop, if◌then◌else◌}
+use Rattle.http2.specs.Frame.{IsFrame, IsTooLarge, word_at, kind_of, flags_of, stream_of, payload_of, Parts, parts_of, flow_of, increment_of}
+use Rattle.http2.specs.Trail.{Step, got, put, preface, window_frame}
 use Rattle.http2.specs.Call.{replies_to}
 use Rattle.http2.specs.Served.{is_answer, answered}
 use Rattle.http2.specs.Streams.{CallValue, StreamValue, find, room}
@@ -10,7 +10,7 @@ use Rattle.http2.specs.Exchange.{ExchangeValue, first_exchange, Event, quiet, re
 use Rattle.http2.specs.declared.fault.Code.{Code}
 use Rattle.http2.specs.declared.fault.Code.TheVariants as codes
 use Rattle.http2.specs.declared.fault.Fault.{Fault}
-use Rattle.http2.specs.declared.fault.Fault.TheVariants.{Memory, Connection}
+use Rattle.http2.specs.declared.fault.Fault.TheVariants.{Memory, Connection, Stream}
 
 -- the number of an error code (RFC 9113, 7)
 abbrev pub number_of : Code → ℕ
@@ -86,57 +86,74 @@ room_on c (Some s) = if s.begun then min (room c.window s.raised s.used) (room 6
 
 -- A frame that may be written now, and the exchange after it. It has the fields that begin the answer of a call that is whole and
 -- has none. Or it has content of an answer that has begun, within both windows. Or it has the fields that end the answer of a call
--- that is whole. Or it gives the connection's window back, answers a frame, or is GOAWAY.
+-- that is whole. Or it gives something of the connection's window back, or answers a frame.
 pub data Puts (c : ExchangeValue) (frame : List ℕ) (after : ExchangeValue) : Type 0 where
   fields : can_begin (find (stream_of frame) c.streams) ≡ true → kind_of frame ≡ 1 → flags_of frame ≡ 4
       → after ≡ changed headed (beside c (stream_of frame)) (find (stream_of frame) c.streams) → Puts c frame after
-  content : flow_of frame ≤ room_on c (find (stream_of frame) c.streams) → kind_of frame ≡ 0 → flags_of frame ≡ 0
+  content : 0 < flow_of frame → flow_of frame ≤ room_on c (find (stream_of frame) c.streams) → kind_of frame ≡ 0 → flags_of frame ≡ 0
       → after ≡ record (changed (charged (flow_of frame)) (beside c (stream_of frame)) (find (stream_of frame) c.streams)) { used = c.used + flow_of frame }
       → Puts c frame after
   trailers : can_end (find (stream_of frame) c.streams) ≡ true → kind_of frame ≡ 1 → flags_of frame ≡ 5
       → after ≡ closed c (stream_of frame) → Puts c frame after
-  window : kind_of frame ≡ 8 → flags_of frame ≡ 0 → stream_of frame ≡ 0
+  window : 0 < increment_of 0 frame → kind_of frame ≡ 8 → flags_of frame ≡ 0 → stream_of frame ≡ 0
       → c.credit + increment_of 0 frame ≤ 1048581 → after ≡ record c { credit = c.credit + increment_of 0 frame } → Puts c frame after
   answer : is_answer frame ≡ true → after ≡ c → Puts c frame after
-  away : kind_of frame ≡ 7 → stream_of frame ≡ 0 → after ≡ c → Puts c frame after
 
--- WHAT CAME. After the frames of a trail the connection goes on like this. These calls came whole, and these answers are owed, the
--- oldest first. Each frame that was written might be.
-abbrev pub Comes : List Step → ExchangeValue → List CallValue → List Parts → Type 0
-Comes [] c calls owed = (c ≡ first_exchange c.most) × (calls ≡ []) × (owed ≡ [])
-Comes (got frame ∷ trail) c calls owed = (b : ExchangeValue) × (earlier : List CallValue) × (before : List Parts) × (event : Event)
-    × Comes trail b earlier before × Takes b frame (on c event) × (calls ≡ earlier ++ calls_in event)
+-- WHAT CAME. A request has at most so much content. After the frames of a trail the connection goes on like this. These calls came
+-- whole, and these answers are owed, the oldest first. Each frame that was written might be.
+abbrev pub Comes : ℕ → List Step → ExchangeValue → List CallValue → List Parts → Type 0
+Comes most [] c calls owed = (c ≡ first_exchange most) × (calls ≡ []) × (owed ≡ [])
+Comes most (got frame ∷ trail) c calls owed = (b : ExchangeValue) × (earlier : List CallValue) × (before : List Parts) × (event : Event)
+    × Comes most trail b earlier before × Takes b frame (on c event) × (calls ≡ earlier ++ calls_in event)
     × (owed ≡ before ++ answers_to frame event)
-Comes (put frame ∷ trail) c calls owed = (b : ExchangeValue) × Comes trail b calls owed × Puts b frame c
+Comes most (put frame ∷ trail) c calls owed = (b : ExchangeValue) × Comes most trail b calls owed × Puts b frame c
 
 -- the connection goes on after what was said first, and all that is owed was written
-abbrev pub Goes : List Step → ExchangeValue → List CallValue → Type 0
-Goes trail c calls = (later : List Step) × (trail ≡ later ++ welcomed) × Comes later c calls (answered later)
+abbrev pub Goes : ℕ → List Step → ExchangeValue → List CallValue → Type 0
+Goes most trail c calls = (later : List Step) × (trail ≡ later ++ welcomed) × Comes most later c calls (answered later)
 
--- frames that were written, each GOAWAY
-abbrev pub AreAway : List Step → Type 0
-AreAway [] = Unit {0}
-AreAway (got frame ∷ steps) = ⊥
-AreAway (put frame ∷ steps) = (kind_of frame ≡ 7) × (stream_of frame ≡ 0) × AreAway steps
+-- the code by which a connection ends (5.4.1, 7)
+abbrev pub code_of : Fault → ℕ
+code_of Memory = 2
+code_of (Connection code) = number_of code
+code_of (Stream code) = number_of code
 
--- why a connection is over: the last frame says so, or what follows is too large a frame, or memory ran out. Or the client did not
--- begin with the preface, of which it sent less (3.4)
+-- GOAWAY with this code (6.8)
+pub record IsAway (code : ℕ) (frame : List ℕ) : Type 0 where
+  pub kind : kind_of frame ≡ 7
+  pub on_none : stream_of frame ≡ 0
+  pub says : word_at (payload_of frame) 4 ≡ code
+
+-- frames that were written, each such a one
+abbrev pub AreAway : ℕ → List Step → Type 0
+AreAway code [] = Unit {0}
+AreAway code (got frame ∷ steps) = ⊥
+AreAway code (put frame ∷ steps) = IsAway code frame × AreAway code steps
+
+-- after so many octets of the preface these follow, and one of them is not the preface's (3.4)
+abbrev pub IsWrong : ℕ → List ℕ → Type 0
+IsWrong greeted bytes = take (24 - greeted) bytes ≢ take (length bytes) (drop greeted preface)
+
+-- why a connection is over: the last frame says so, or what follows is too large a frame. Or the client did not begin with the
+-- preface: it sent another octet. Or memory ran out before a frame was looked at, or while the last one was
 pub data Breaks (c : ExchangeValue) (came : List Step) (greeted : ℕ) (rest : List ℕ) (f : Fault) : Type 0 where
   by_frame : (frame : List ℕ) → came ≡ got frame ∷ [] → Takes c frame (over f) → Breaks c came greeted rest f
-  by_size : came ≡ [] → IsTooLarge rest → f ≡ Connection Code.FrameSize → Breaks c came greeted rest f
-  by_preface : came ≡ [] → greeted < 24 → f ≡ Connection Code.Protocol → Breaks c came greeted rest f
-  by_memory : f ≡ Memory → Breaks c came greeted rest f
+  by_size : came ≡ [] → 24 ≤ greeted → IsTooLarge rest → f ≡ Connection Code.FrameSize → Breaks c came greeted rest f
+  by_preface : came ≡ [] → greeted < 24 → IsWrong greeted rest → f ≡ Connection Code.Protocol → Breaks c came greeted rest f
+  by_memory : came ≡ [] → f ≡ Memory → Breaks c came greeted rest f
+  by_memory_at : (frame : List ℕ) → came ≡ got frame ∷ [] → f ≡ Memory → Breaks c came greeted rest f
 
--- a connection that is over: it went on before, these calls of those that came whole were given, and GOAWAY alone was written since
-pub record IsOver (trail : List Step) (gave : List CallValue) (greeted : ℕ) (rest : List ℕ) (f : Fault) : Type 0 where
+-- a connection that is over: it went on before, and these calls of those that came whole were given. Since then only GOAWAY was
+-- written, with the fault's code
+pub record IsOver (most : ℕ) (trail : List Step) (gave : List CallValue) (greeted : ℕ) (rest : List ℕ) (f : Fault) : Type 0 where
   pub before : List Step
   pub came : List Step
   pub away : List Step
   pub whole : trail ≡ away ++ (came ++ before)
-  pub are_away : AreAway away
+  pub are_away : AreAway (code_of f) away
   pub c : ExchangeValue
   pub more : List CallValue
-  pub goes : Goes before c (gave ++ more)
+  pub goes : Goes most before c (gave ++ more)
   pub breaks : Breaks c came greeted rest f
 
 -- what was written answers just this, after what waited

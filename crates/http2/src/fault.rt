@@ -34,8 +34,13 @@ pub enum Fault {
 }
 
 impl Fault {
+    ghost use Rattle.std.specs.Prelude.{◌≡◌};
+    ghost use Rattle.http2.specs.Exchanged.{number_of, code_of};
+
     /// The code that the peer is told.
-    pub fn code(&self) -> Code {
+    pub fn code(&self) -> Code
+        ensures { number_of result ≡ code_of self.now }
+    {
         match self {
             Fault::Memory => Code::Internal,
             Fault::Connection(code) => *code,

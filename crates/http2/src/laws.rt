@@ -47,11 +47,12 @@ pub fn streams_do_not_mix()
 
 /// The content of each call that a server of unary calls gave is the data of its own stream, among all bytes that came.
 pub fn content_is_the_streams_data()
-    ensures { (trail : List Step) (came sent : List ℕ) (gave : List CallValue) (u : UnaryValue)
-        → UnaryLaw trail came sent gave u → AllByRecursion (HasItsData trail) gave }
+    ensures { (most : ℕ) (trail : List Step) (came sent : List ℕ) (gave : List CallValue) (u : UnaryValue)
+        → UnaryLaw most trail came sent gave u → AllByRecursion (HasItsData trail) gave }
 {}
 
 /// A server of unary calls keeps at most 100 streams, each with no more content than is taken.
 pub fn streams_are_bounded()
-    ensures { (trail : List Step) (c : ExchangeValue) (calls : List CallValue) → Goes trail c calls → IsBounded c }
+    ensures { (most : ℕ) (trail : List Step) (c : ExchangeValue) (calls : List CallValue) → Goes most trail c calls
+        → IsBounded c × (c.most ≡ most) }
 {}

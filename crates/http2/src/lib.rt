@@ -1,5 +1,5 @@
-//! HTTP/2 (RFC 9113) in cleartext with prior knowledge: frames in any cutting, a client with one call of gRPC, and a server of
-//! one call.
+//! HTTP/2 (RFC 9113) in cleartext with prior knowledge. It has frames in any cutting, a client with one call of gRPC, and servers of
+//! one call and of unary calls.
 //!
 //! A [`Tunnel`] has no socket and no clock. Its caller moves bytes, in turns:
 //!
@@ -14,6 +14,9 @@
 //!
 //! A [`Server`] is used the same way. Once `request` has the request's fields, its caller gives `answer` the fields that begin
 //! the answer, and at the end `finish` those that end it; `over` says why the call is over.
+//!
+//! A [`UnaryServer`] has many calls on one connection. `receive` and `work` look at the client's frames and answer those, give the
+//! connection's window back, and say why it ends. They never write an answer of a call: `answer`, `say` and `finish` do.
 #![tactic(auto)]
 
 mod accounts;

@@ -8,7 +8,7 @@ use crate::first_words::{PREFACE, WELCOME, WINDOW};
 use crate::frame::{GOAWAY, MOST, UPDATE};
 use crate::stream::Call;
 use crate::tunnel::{MOST_WAITING, PENDING};
-use crate::unary_frames::{block_of, head, serve, write_content, write_end, write_head};
+use crate::unary_frames::{block_of, head, number_of, serve, write_content, write_end, write_head};
 use crate::wire::Wire;
 use crate::written::octets;
 use hpack::Field;
@@ -42,16 +42,17 @@ pub struct UnaryServer {
 }
 
 impl UnaryServer {
-    ghost use Rattle.std.specs.Prelude.{◌≢◌, ◌⊎◌, ◌<◌, ◌++◌, ◌-◌, ◌∷◌, min, ℕ, List, [], Some, Ok, Err, take, drop, IfSome, map, false, is_some, if◌then◌else◌, IfOk, OnErr, OnOk, IsTrue};
+    ghost use Rattle.std.specs.Prelude.{◌≢◌, ◌⊎◌, ◌<◌, ◌++◌, ◌-◌, ◌∷◌, min, ℕ, List, [], Some, Ok, Err, take, drop, IfSome, map, false, is_some, if◌then◌else◌, IfOk, IfErr, OnErr, OnOk, IsTrue};
     ghost use Rattle.hpack.specs.Field.{line_of};
-    ghost use Rattle.http2.specs.Frame.{parts_of};
-    ghost use Rattle.http2.specs.Trail.{Step, preface};
+    ghost use Rattle.http2.specs.Frame.{IsPart, parts_of};
+    ghost use Rattle.http2.specs.Trail.{Step};
     ghost use Rattle.http2.specs.Servers.{Heads};
     ghost use Rattle.http2.specs.Streams.{CallValue, find};
     ghost use Rattle.http2.specs.Exchanged.{can_begin, can_end, room_on};
     ghost use Rattle.http2.specs.Exchanges.{exchange_view};
     ghost use Rattle.http2.specs.StreamViews.{call_view};
-    ghost use Rattle.http2.specs.Unary.{UnaryLaw, Welcomes, Continues, Receives, Writes, unary_view};
+    ghost use Rattle.http2.specs.Unary.{UnaryLaw, Welcomes, Continues, Receives, Stays, Writes, HasLooked, HasGiven, unary_view};
+    ghost use Rattle.http2.specs.declared.fault.Fault.TheVariants.{Memory};
     ghost use Rattle.http2.specs.declared.unary.Answering.{Answering};
 
     /// A server whose client has said nothing. A request has at most so many octets of content.
@@ -72,6 +73,15 @@ impl UnaryServer {
     /// calls were not given, or once the connection is over. The preface is taken by itself.
     pub fn receive(&mut self, alloc: Global, bytes: &[u8]) -> Result<usize, AllocError>
         ensures count { IfOk result (λ n. n ≤ length bytes.now) }
+        ensures first { IfOk result (λ n. self.old.over ≡ None → length self.old.wire.out ≤ 65536 → length self.old.calls.items < 100
+            → self.old.greeted < 24 → (self.new.over ≢ None) ⊎ (n ≡ min (length bytes.now) (24 - self.old.greeted))) }
+        ensures most { IfOk result (λ n. self.old.over ≡ None → length self.old.wire.out ≤ 65536 → length self.old.calls.items < 100
+            → 24 ≤ self.old.greeted → n ≡ min (length bytes.now) (16393 - length self.old.wire.rest)) }
+        ensures looked { OnOk result (HasLooked self.new) }
+        ensures given { OnOk result ((100 ≤ length self.new.calls.items) ⊎ HasGiven self.new) }
+        ensures over { self.old.over ≢ None → (result ≡ Ok 0) × (self.new ≡ self.old) }
+        ensures waits { 65536 < length self.old.wire.out → (result ≡ Ok 0) × (self.new ≡ self.old) }
+        ensures full { 100 ≤ length self.old.calls.items → (result ≡ Ok 0) × (self.new ≡ self.old) }
         ensures law { IfOk result (λ n. Receives (take n bytes.now) (unary_view self.old) (unary_view self.new)) }
         ensures fault { OnErr result (unary_view self.new ≡ unary_view self.old) }
     {
@@ -81,36 +91,57 @@ impl UnaryServer {
         if self.wire.out().len() > PENDING || self.calls.len() >= MOST_STREAMS {
             return Ok(0);
         }
-        if self.greeted < 24 {
-            return Ok(self.greet(alloc, bytes));
-        }
-        let count = self.wire.hear(bytes)?;
+        let count = self.hear(alloc, bytes)?;
         self.work(alloc);
         Ok(count)
     }
 
-    /// Takes bytes of the preface. Others end the connection.
-    fn greet(&mut self, alloc: Global, bytes: &[u8]) -> usize
+    /// Takes bytes of the preface, or later ones.
+    fn hear(&mut self, alloc: Global, bytes: &[u8]) -> Result<usize, AllocError>
+        requires open { self.old.over ≡ None }
+        ensures count { IfOk result (λ n. n ≤ length bytes.now) }
+        ensures first { IfOk result (λ n. self.old.greeted < 24
+            → (self.new.over ≢ None) ⊎ (n ≡ min (length bytes.now) (24 - self.old.greeted))) }
+        ensures most { IfOk result (λ n. 24 ≤ self.old.greeted → n ≡ min (length bytes.now) (16393 - length self.old.wire.rest)) }
+        ensures law { IfOk result (λ n. Receives (take n bytes.now) (unary_view self.old) (unary_view self.new)) }
+        ensures fault { OnErr result (unary_view self.new ≡ unary_view self.old) }
+    {
+        if self.greeted < 24 {
+            let taken = self.greet(alloc, bytes)?;
+            return Ok(taken);
+        }
+        let count = self.wire.hear(bytes)?;
+        Ok(count)
+    }
+
+    /// Takes bytes of the preface. Others are kept, and end the connection.
+    fn greet(&mut self, alloc: Global, bytes: &[u8]) -> Result<usize, AllocError>
         requires open { self.old.over ≡ None }
         requires begins { self.old.greeted < 24 }
-        ensures count { result ≤ length bytes.now }
-        ensures law { Receives (take result bytes.now) (unary_view self.old) (unary_view self.new) }
+        ensures count { IfOk result (λ n. n ≤ length bytes.now) }
+        ensures first { IfOk result (λ n. (self.new.over ≢ None) ⊎ (n ≡ min (length bytes.now) (24 - self.old.greeted))) }
+        ensures law { IfOk result (λ n. Receives (take n bytes.now) (unary_view self.old) (unary_view self.new)) }
+        ensures fault { OnErr result (unary_view self.new ≡ unary_view self.old) }
     {
         let preface: &[u8] = PREFACE.as_slice();
         let rest = &preface[self.greeted..];
         let count = rest.len().min(bytes.len());
         if &bytes[..count] != &rest[..count] {
+            let wrong = self.wire.hear(&bytes[..count])?;
             self.over = Some(Fault::Connection(Code::Protocol));
             self.tell(alloc, Fault::Connection(Code::Protocol));
-            return 0;
+            return Ok(wrong);
         }
         self.greeted += count;
-        count
+        Ok(count)
     }
 
     /// Looks at the frames that came, and gives the connection's window back. A fault ends the connection by GOAWAY. Its caller
     /// calls it after `sent` and `call`: while too much waits, nothing is looked at or given back.
     pub fn work(&mut self, alloc: Global)
+        ensures looked { HasLooked self.new }
+        ensures given { HasGiven self.new }
+        ensures over { self.old.over ≢ None → self.new.over ≡ self.old.over }
         ensures continues { Continues (unary_view self.old) (unary_view self.new) }
     {
         if self.over.is_some() {
@@ -126,10 +157,11 @@ impl UnaryServer {
     /// The first call that is whole and was not given; none once the connection is over.
     pub fn call(&mut self) -> Option<Call>
         ensures none { result ≡ None → self.new ≡ self.old }
+        ensures over { self.new.over ≡ self.old.over }
         ensures due { result ≡ None → self.old.over ≡ None → self.old.calls.items ≡ [] }
-        ensures law { IfSome result (λ call. (trail : List Step) (came sent : List ℕ) (gave : List CallValue)
-            → UnaryLaw trail came sent gave (unary_view self.old)
-            → UnaryLaw trail came sent (gave ++ call_view call ∷ []) (unary_view self.new)) }
+        ensures law { IfSome result (λ call. (most : ℕ) (trail : List Step) (came sent : List ℕ) (gave : List CallValue)
+            → UnaryLaw most trail came sent gave (unary_view self.old)
+            → UnaryLaw most trail came sent (gave ++ call_view call ∷ []) (unary_view self.new)) }
     {
         if self.over.is_some() {
             return None;
@@ -151,8 +183,9 @@ impl UnaryServer {
             × Writes frame (unary_view self.old) (unary_view self.new) }
         ensures gone { result ≡ Ok Answering.Gone → (self.new ≡ self.old)
             × ((self.old.over ≢ None) ⊎ (can_begin (find stream (exchange_view self.old.exchange).streams) ≡ false)) }
-        ensures waits { result ≡ Ok Answering.Waits → self.new ≡ self.old }
-        ensures fault { OnErr result (Continues (unary_view self.old) (unary_view self.new)) }
+        ensures stays { IfOk result (λ _. self.new.over ≡ self.old.over) }
+        ensures waits { result ≡ Ok Answering.Waits → (self.new ≡ self.old) × (65536 < length self.old.wire.out) }
+        ensures fault { OnErr result (Stays (unary_view self.old) (unary_view self.new)) }
     {
         if self.over.is_some() {
             return Ok(Answering::Gone);
@@ -176,14 +209,18 @@ impl UnaryServer {
     /// Writes the first of an answer's octets as content, as far as the windows, a frame and the bytes that wait allow. Returns how
     /// many; none before its fields were written, or once the call is over.
     pub fn say(&mut self, alloc: Global, stream: u32, bytes: &[u8]) -> Result<usize, Fault>
+        ensures count { IfOk result (λ n. n ≤ length bytes.now) }
         ensures most { IfOk result (λ n. self.old.over ≡ None → length self.old.wire.out ≤ 65536
             → n ≡ min (min (length bytes.now) 16384) (room_on (exchange_view self.old.exchange) (find stream (exchange_view self.old.exchange).streams))) }
         ensures none { result ≡ Ok 0 → self.new ≡ self.old }
         ensures over { self.old.over ≢ None → result ≡ Ok 0 }
+        ensures stays { IfOk result (λ _. self.new.over ≡ self.old.over) }
+        ensures memory { IfErr result (λ fault. fault ≡ Memory) }
+        ensures waits { 65536 < length self.old.wire.out → result ≡ Ok 0 }
         ensures written { IfOk result (λ n. 0 < n → (frame : List ℕ)
             × (parts_of frame ≡ record { kind = 0; flags = 0; stream = stream; payload = take n bytes.now })
             × Writes frame (unary_view self.old) (unary_view self.new)) }
-        ensures fault { OnErr result (Continues (unary_view self.old) (unary_view self.new)) }
+        ensures fault { OnErr result (Stays (unary_view self.old) (unary_view self.new)) }
     {
         if self.over.is_some() {
             return Ok(0);
@@ -221,8 +258,9 @@ impl UnaryServer {
             × Writes frame (unary_view self.old) (unary_view self.new) }
         ensures gone { result ≡ Ok Answering.Gone → (self.new ≡ self.old)
             × ((self.old.over ≢ None) ⊎ (can_end (find stream (exchange_view self.old.exchange).streams) ≡ false)) }
-        ensures waits { result ≡ Ok Answering.Waits → self.new ≡ self.old }
-        ensures fault { OnErr result (Continues (unary_view self.old) (unary_view self.new)) }
+        ensures stays { IfOk result (λ _. self.new.over ≡ self.old.over) }
+        ensures waits { result ≡ Ok Answering.Waits → (self.new ≡ self.old) × (65536 < length self.old.wire.out) }
+        ensures fault { OnErr result (Stays (unary_view self.old) (unary_view self.new)) }
     {
         if self.over.is_some() {
             return Ok(Answering::Gone);
@@ -263,9 +301,10 @@ impl UnaryServer {
     /// The first of the bytes were sent.
     pub fn sent(&mut self, count: usize)
         requires { count ≤ length self.old.wire.out }
-        ensures { (trail : List Step) (came sent : List ℕ) (gave : List CallValue)
-            → UnaryLaw trail came sent gave (unary_view self.old)
-            → UnaryLaw trail came (sent ++ take count self.old.wire.out) gave (unary_view self.new) }
+        ensures law { (most : ℕ) (trail : List Step) (came sent : List ℕ) (gave : List CallValue)
+            → UnaryLaw most trail came sent gave (unary_view self.old)
+            → UnaryLaw most trail came (sent ++ take count self.old.wire.out) gave (unary_view self.new) }
+        ensures over { self.new.over ≡ self.old.over }
     {
         self.wire.sent(count);
     }
@@ -279,6 +318,7 @@ impl UnaryServer {
 
     /// Looks at one frame after the other.
     fn look_at_all(&mut self, alloc: Global)
+        ensures looked { HasLooked self.new }
         ensures continues { Continues (unary_view self.old) (unary_view self.new) }
     {
         'frames: while self.over.is_none()
@@ -297,6 +337,7 @@ impl UnaryServer {
         requires waits { length self.old.wire.out ≤ 65536 }
         requires few { length self.old.calls.items < 100 }
         ensures shorter { IsTrue result → length self.new.wire.rest < length self.old.wire.rest }
+        ensures looked { result ≡ true ⊎ ((self.new.over ≢ None) ⊎ IsPart self.new.wire.rest) }
         ensures continues { Continues (unary_view self.old) (unary_view self.new) }
     {
         match self.wire.next(alloc) {
@@ -321,6 +362,10 @@ impl UnaryServer {
     /// Gives the connection's window back, unless too much waits. If memory runs out, the connection is over.
     fn give_back(&mut self, alloc: Global)
         requires { self.old.over ≡ None }
+        ensures longer { length self.old.wire.out ≤ length self.new.wire.out }
+        ensures rest { self.new.wire.rest ≡ self.old.wire.rest }
+        ensures calls { self.new.calls ≡ self.old.calls }
+        ensures given { HasGiven self.new }
         ensures continues { Continues (unary_view self.old) (unary_view self.new) }
     {
         if self.wire.out().len() > PENDING {
@@ -342,7 +387,7 @@ impl UnaryServer {
     /// Says why the connection ends, if there is memory for it and not too much waits. It names the greatest stream that the
     /// client opened as the last that may have been served.
     fn tell(&mut self, alloc: Global, fault: Fault)
-        requires { is_some self.old.over ≡ true }
+        requires { self.old.over ≡ Some fault }
         ensures over { self.new.over ≡ self.old.over }
         ensures continues { Continues (unary_view self.old) (unary_view self.new) }
     {
@@ -350,7 +395,7 @@ impl UnaryServer {
             return;
         }
         let [a, b, c, d] = octets(self.exchange.last);
-        let payload = [a, b, c, d, 0, 0, 0, fault.code() as u8];
+        let payload = [a, b, c, d, 0, 0, 0, number_of(fault.code())];
         let _told = self.wire.put(alloc, head(GOAWAY, 0, 0), &payload).is_ok();
     }
 }

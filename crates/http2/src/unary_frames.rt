@@ -100,7 +100,7 @@ pub(crate) fn head(kind: u8, flags: u8, stream: u32) -> Head
 }
 
 /// The number of an error code.
-fn number_of(code: Code) -> u8
+pub(crate) fn number_of(code: Code) -> u8
     ensures { result ≡ number_of code }
 {
     match code {

@@ -92,6 +92,7 @@ impl Wire {
         requires small { length payload.now ≤ 16384 }
         ensures rest { self.new.rest ≡ self.old.rest }
         ensures waits { length self.new.out ≤ length self.old.out + 9 + length payload.now }
+        ensures longer { length self.old.out ≤ length self.new.out }
         ensures wrote { OnOk result ((frame : List ℕ) × IsFrame frame
             × (parts_of frame ≡ record { kind = head.kind; flags = head.flags; stream = head.stream; payload = payload.now })
             × (self.new.out ≡ self.old.out ++ frame)) }

@@ -1,4 +1,4 @@
-use Rattle.std.proofs.Common.{List, ℕ, [], refl, ap, arith, ◌≡◌, None, true, rules}
+use Rattle.std.proofs.Common.{List, ℕ, refl, ap, arith, ◌≡◌, None, true, rules}
 use Rattle.http2.specs.Exchanged.{can_end}
 use Rattle.http2.specs.Streams.{find}
 use Rattle.http2.specs.Unary.{UnaryValue, unary_view}
@@ -19,15 +19,15 @@ returns-in-Ok-clause-written c = λ is.
     let kind = kind_is frame block 1 5 c.args.stream are in (
       frame,
       heads_of c.args.stream 5 _ frame block are c.in_ok-block.ensures.means,
-      λ trail came sent gave law.
-          law_wrote trail came sent gave old _ frame wrote.1 none refl refl c.write_end.ensures.rest wrote.3 refl
+      λ most trail came sent gave law.
+          law_wrote most trail came sent gave old _ frame wrote.1 none refl refl c.write_end.ensures.rest wrote.3 refl
           (trailers_puts old.exchange _ frame block c.args.stream are can wrote.4)
           (quiet_of frame 1 kind (λ e. absurd (omega (arith, e))) (λ e. absurd (omega (arith, e))) (λ e. absurd (omega (arith, e)))) law,
     )
 
 pub returns-clause-fault : goal.returns-clause-fault
-returns-clause-fault c = λ trail came sent gave law.
+returns-clause-fault c = λ most trail came sent gave law.
     let old : UnaryValue = unary_view c.args.self.now in
     let none : old.over ≡ None = none_of old.over c.if-is_some.ensures in
     let same = c.in-Err.ensures.fault in
-    ([], law_spent trail came sent gave old _ none refl refl (ap (λ w. w.rest) same) (ap (λ w. w.out) same) law)
+    law_spent most trail came sent gave old _ none refl refl (ap (λ w. w.rest) same) (ap (λ w. w.out) same) law

@@ -13,19 +13,20 @@ returns-in-Ok-Some-clause-shorter c = λ _.
     omega (arith, frame.whole, lengths, sum, same)
 
 pub returns-in-Ok-Some-clause-continues : goal.returns-in-Ok-Some-clause-continues
-returns-in-Ok-Some-clause-continues c = λ trail came sent gave law.
+returns-in-Ok-Some-clause-continues c = λ most trail came sent gave law.
     let old = c.args.self.now in
     let frame = c.in-Ok-Some.frame in
     let whole = c.in-Ok-Some.ensures.frame frame (ap (λ o. Ok o) c.in-Ok-Some.field-0-is) in
     let rest = whole ∙ ap (λ (t : List ℕ). frame.bytes.items ++ t) (sym c.serve-self.ensures.rest) in
-    law_acted trail came sent gave (unary_view old) _ frame.bytes.items c.serve-self.result (record { whole = frame.whole; small = frame.small })
+    law_acted most trail came sent gave (unary_view old) _ frame.bytes.items c.serve-self.result (record { whole = frame.whole; small = frame.small })
     c.requires.open refl refl rest (rw (← c.next.ensures.out) c.serve-self.ensures.acts) law
 
 pub returns-in-Err-clause-continues : goal.returns-in-Err-clause-continues
-returns-in-Err-clause-continues c = λ trail came sent gave law.
+returns-in-Err-clause-continues c = λ most trail came sent gave law.
     let old = c.args.self.now in
     let fault = c.in-Err.ensures.fault in (
       [],
-      stopped_at trail came sent gave (unary_view old) _ c.in-Err.fault c.requires.open refl refl
+      tt,
+      stopped_at most trail came sent gave (unary_view old) _ c.in-Err.fault c.requires.open refl refl
           (ap (λ w. w.rest) fault.1) (ap (λ w. w.out) fault.1) fault.0 law,
     )

@@ -1,5 +1,4 @@
-use Rattle.std.proofs.Common.{[], ℕ, List, map, refl, sym, ap, ◌∙◌, arith}
-use Rattle.http2.specs.Exchange.{ExchangeValue, first_exchange}
+use Rattle.std.proofs.Common.{[], List, map, refl, sym, ap, arith}
 use Rattle.http2.specs.StreamViews.{call_view}
 use Rattle.http2.specs.declared.stream.Call.{Call}
 use Rattle.http2.proofs.unary.UnaryServer.new.Goals as goal
@@ -10,11 +9,12 @@ returns c =
     let first = c.new-2.ensures.first in
     record {
       out = wire.1;
-      most_is = ap (λ (e : ExchangeValue). e.most) first;
+      goes_on = refl;
       law = record {
         later = [];
         arrived = refl;
-        greeting = λ _. refl;
+        unheard = λ _. refl;
+        greeting = λ _ _. wire.0;
         frames = (record { whole = refl; small = omega arith }, (record { whole = refl; small = omega arith }, tt));
         heard = sym wire.0;
         written = wire.1;
@@ -22,7 +22,7 @@ returns c =
           [],
           refl,
           (
-            first ∙ ap (λ (n : ℕ). first_exchange n) (sym (ap (λ (e : ExchangeValue). e.most) first)),
+            first,
             ap (λ (cs : List Call). map call_view cs) c.new-3.ensures.items,
             refl,
           ),

@@ -1,14 +1,11 @@
-use Rattle.std.proofs.Common.{◌≡◌, List, ℕ, ◌++◌, None, ap₂, take, arith}
-use Rattle.http2.specs.Unary.{UnaryValue, unary_view}
-use Rattle.http2.proofs.Calls.{none_of}
-use Rattle.http2.proofs.Unaries.{law_heard}
+use Rattle.http2.specs.Unary.{unary_view}
+use Rattle.http2.proofs.Unaries.{received, still_over}
 use Rattle.http2.proofs.unary.UnaryServer.receive.Goals as goal
 
 pub returns-clause-law : goal.returns-clause-law
-returns-clause-law c = λ trail came sent gave law.
-    let old : UnaryValue = unary_view c.args.self.now in
-    let none : old.over ≡ None = none_of old.over c.if-is_some.ensures in
-    let part = take c.in_ok-count.count c.args.bytes.now in
-    c.work.ensures.continues trail (came ++ part) sent gave
-    (law_heard trail came sent part gave old _ none (λ less. absurd (omega (arith, less, c.if-self-lt24.false)))
-    (ap₂ (λ (r o : List ℕ). record old { rest = r; out = o }) c.in_ok-count.ensures.heard c.hear.ensures.out) law)
+returns-clause-law c =
+    received _ (unary_view c.args.self.now) (unary_view c.hear.new.self) _ c.in_ok-count.ensures.law c.work.ensures.continues
+
+pub returns-clause-first : goal.returns-clause-first
+returns-clause-first c = λ on room few less.
+    still_over c.hear.new.self.over c.work.new.self.over c.work.ensures.over (c.in_ok-count.ensures.first less)

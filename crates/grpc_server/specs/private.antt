@@ -1,0 +1,2 @@
+-- Definitions that only clauses of private functions and proofs use.
+pub mod Replying
