@@ -7,7 +7,7 @@ use Rattle.proxy_core.specs.Worker.{calls_at}
 use Rattle.serve_config.specs.declared.config.ServeConfig.{ServeConfig}
 use Rattle.serve_loop.specs.declared.stream.Stream.{Stream}
 use Rattle.serve_loop.specs.History.{IsOrderly, answered_at, sent_at, waiting_at}
-use Rattle.serve_loop.specs.Law.{wire_of}
+use Rattle.serve_loop.specs.Law.{ArePlaced, wire_of}
 use Rattle.serve_core.specs.ClientRequests.{RuleValue}
 use Rattle.serve_core.specs.Fronts.{FrontsRun, FrontsValue}
 use Rattle.serve_core.specs.Headline.{ServerHeadline, core_calls}
@@ -46,3 +46,5 @@ pub record SettingsHeadline (c : ConfigValue) (settings : ServeConfig) (wire : L
   pub setup : SetupValue
   pub set_up : IsSetupBy c settings setup
   pub headline : ∥ ServedHeadline setup wire ∥₁
+  -- no connection is accepted in a place above those of the settings
+  pub placed : ∥ ArePlaced setup.places wire ∥₁

@@ -92,6 +92,8 @@ impl Service<Conn> for MappedService<'_> {
 
     ghost setup = { λ s. setup_of (worker_view s.fronts.core.worker) (Some (rule_view s.fronts.rule)) };
 
+    ghost places = { λ (setup : SetupValue). setup.places };
+
     ghost takes = { λ s stream. room_for stream s.fronts.core.room };
 
     fn room(&self, stream: Stream) -> usize {

@@ -76,6 +76,8 @@ impl Service<Conn> for Served<'_> {
 
     ghost setup = { served_setup };
 
+    ghost places = { λ (setup : SetupValue). setup.places };
+
     ghost takes = { served_takes };
 
     fn room(&self, stream: Stream) -> usize {

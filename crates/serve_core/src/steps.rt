@@ -81,6 +81,8 @@ impl Service<Conn> for WorkerService {
 
     ghost setup = { λ s. setup_of (worker_view s.worker) None };
 
+    ghost places = { λ (setup : SetupValue). setup.places };
+
     ghost takes = { λ s stream. room_for stream s.room };
 
     fn room(&self, stream: Stream) -> usize {

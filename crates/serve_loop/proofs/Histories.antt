@@ -1,11 +1,12 @@
 -- One step more in the histories.
-use Rattle.std.proofs.Common.{◌≡◌, ◌<◌, ℕ, zero, suc, ◌==◌, Bool, true, false, not, true≢false, List, [], ◌∷◌, ◌++◌, length, take, drop, get_or, set, refl, sym, ap, ◌∙◌, if◌then◌else◌}
+use Rattle.std.proofs.Common.{◌≡◌, ◌<◌, ℕ, zero, suc, ◌==◌, Bool, true, false, not, true≢false, List, [], ◌∷◌, ◌++◌, length, take, drop, get_or, set, refl, sym, ap, subst, ◌∙◌, if◌then◌else◌}
 use Rattle.std.proofs.lemmas.Bool.{eqb-true, eq-eqb}
-use Rattle.std.proofs.lemmas.List.{get_or-set_same, get_or-set_other, take-append-drop}
+use Rattle.std.proofs.lemmas.List.{get_or-set_same, get_or-set_other, length-set, take-append-drop}
+use Rattle.std.proofs.Math.Logic.{∥∥₁_map}
 use Rattle.serve_loop.specs.declared.stream.Stream.{Stream}
 use Rattle.serve_loop.specs.declared.stream.Stream.TheVariants.{Place, Updates}
 use Rattle.serve_loop.specs.History.{EventValue, accepted, connected, received, closed, drain, Step, event, sent, Effect, Turn, took, gave, waiting_at, open_at, MayFollow}
-use Rattle.serve_loop.specs.Law.{Belong, IsAfter, IsKept}
+use Rattle.serve_loop.specs.Law.{ArePlaced, Belong, GoesOn, IsAfter, IsKept}
 
 module _ {F : Type 0} (wire wire' : List (Step F)) (turns turns' : List (Turn F)) (seen seen' : List (EventValue F)) where
   -- nothing happened
@@ -69,6 +70,7 @@ module _ {F : Type 0} (wire wire' : List (Step F)) (places : List Bool) (is_up i
     open_places = λ j. rw w (k.open_places j);
     updates = rw w k.updates;
     ending = rw w k.ending;
+    placed = rw w k.placed;
   }
 
   pub kept_sent : (s : Stream) (bytes : List ℕ) → wire' ≡ sent s bytes ∷ wire
@@ -77,6 +79,7 @@ module _ {F : Type 0} (wire wire' : List (Step F)) (places : List Bool) (is_up i
     open_places = λ j. rw w (k.open_places j);
     updates = rw w k.updates;
     ending = rw w k.ending;
+    placed = rw w k.placed;
   }
 
   pub kept_drain : wire' ≡ event drain ∷ wire → IsKept wire places is_up is_ending → IsKept wire' places is_up true
@@ -84,6 +87,7 @@ module _ {F : Type 0} (wire wire' : List (Step F)) (places : List Bool) (is_up i
     open_places = λ j. rw w (k.open_places j);
     updates = rw w k.updates;
     ending = rw w refl;
+    placed = rw w k.placed;
   }
 
   pub kept_accepted : (at : ℕ) (facts : F) → at < length places → wire' ≡ event (accepted at facts) ∷ wire
@@ -92,6 +96,7 @@ module _ {F : Type 0} (wire wire' : List (Step F)) (places : List Bool) (is_up i
     open_places = λ j. rw w (choose (j == at) true _ _ (k.open_places j) ∙ put_place places at j true within);
     updates = rw w k.updates;
     ending = rw w k.ending;
+    placed = rw w (subst (λ (n : ℕ). ArePlaced n (event (accepted at facts) ∷ wire)) (sym (length-set places at true)) (within, k.placed));
   }
 
   pub kept_closed : (at : ℕ) → at < length places → wire' ≡ event (closed (Place at)) ∷ wire
@@ -100,6 +105,7 @@ module _ {F : Type 0} (wire wire' : List (Step F)) (places : List Bool) (is_up i
     open_places = λ j. rw w (choose (j == at) false _ _ (k.open_places j) ∙ put_place places at j false within);
     updates = rw w k.updates;
     ending = rw w k.ending;
+    placed = rw w (subst (λ (n : ℕ). ArePlaced n wire) (sym (length-set places at false)) k.placed);
   }
 
   pub kept_connected : wire' ≡ event connected ∷ wire → IsKept wire places is_up is_ending → IsKept wire' places true is_ending
@@ -107,6 +113,7 @@ module _ {F : Type 0} (wire wire' : List (Step F)) (places : List Bool) (is_up i
     open_places = λ j. rw w (k.open_places j);
     updates = rw w refl;
     ending = rw w k.ending;
+    placed = rw w k.placed;
   }
 
   pub kept_disconnected : wire' ≡ event (closed Updates) ∷ wire
@@ -115,6 +122,7 @@ module _ {F : Type 0} (wire wire' : List (Step F)) (places : List Bool) (is_up i
     open_places = λ j. rw w (k.open_places j);
     updates = rw w refl;
     ending = rw w k.ending;
+    placed = rw w k.placed;
   }
 
 -- nothing has happened yet
@@ -133,6 +141,7 @@ kept_new wire places w closed' = record {
   open_places = λ k. rw w (sym (closed' k));
   updates = rw w refl;
   ending = rw w refl;
+  placed = rw w tt;
 }
 
 -- a wait in which the server was not told to end, and one in which it was
@@ -178,3 +187,20 @@ module _ {F Setup : Type 0} (turns turns' : List (Turn F)) (setup setup' : Setup
     whole = t ∙ ap (λ (l : List (Turn F)). gave s bytes ∷ l) h.whole;
     same = same ∙ h.same;
   }
+
+-- what a service is set up with stays while it goes on
+pub setup_stays : {S F Setup : Type 0} (turns : S → List (Turn F)) (setup : S → Setup) (old new : S) → GoesOn turns setup old new
+    → setup new ≡ setup old
+setup_stays turns setup old new goes_on =
+    (goes_on (turns old) (setup old) (record { more = []; whole = refl; same = refl })).same
+
+-- so does the number of its places
+pub counted_on : {S F Setup : Type 0} (turns : S → List (Turn F)) (setup : S → Setup) (places : Setup → ℕ) (old new : S) (n : ℕ)
+    → GoesOn turns setup old new → n ≡ places (setup old) → n ≡ places (setup new)
+counted_on turns setup places old new n goes_on is = is ∙ ap places (sym (setup_stays turns setup old new goes_on))
+
+-- so where connections are accepted is known
+pub placed_on : {F : Type 0} (wire : List (Step F)) (places : List Bool) (is_up is_ending : Bool) (n : ℕ) → length places ≡ n
+    → ∥ IsKept wire places is_up is_ending ∥₁ → ∥ ArePlaced n wire ∥₁
+placed_on wire places is_up is_ending n counted kept = ∥∥₁_map kept (λ (k : IsKept wire places is_up is_ending).
+    subst (λ (m : ℕ). ArePlaced m wire) counted k.placed)

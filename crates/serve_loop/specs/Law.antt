@@ -1,7 +1,7 @@
 -- The law of the loop: what happened on the wire is what the service was told and what it answered.
-use Rattle.std.specs.Prelude.{◌≡◌, ℕ, Bool, false, List, [], ◌∷◌, ◌++◌, get_or}
+use Rattle.std.specs.Prelude.{◌≡◌, ◌<◌, ℕ, Bool, false, List, [], ◌∷◌, ◌++◌, get_or, length}
 use Rattle.serve_loop.specs.declared.stream.Stream.TheVariants.{Place, Updates}
-use Rattle.serve_loop.specs.History.{EventValue, Step, event, sent, Turn, took, gave, waiting_at, open_at, is_told, IsOrderly}
+use Rattle.serve_loop.specs.History.{EventValue, accepted, connected, received, closed, drain, Step, event, sent, Turn, took, gave, waiting_at, open_at, is_told, IsOrderly}
 
 -- the steps on the wire that belong to these turns: one for each
 abbrev pub wire_of : {F : Type 0} → List (Turn F) → List (Step F)
@@ -34,11 +34,22 @@ pub record Belong {F : Type 0} (wire : List (Step F)) (turns : List (Turn F)) (s
   pub in_order : AreSentInOrder turns
   pub orderly : IsOrderly wire
 
+-- each connection was accepted in one of so many places
+abbrev pub ArePlaced : {F : Type 0} → ℕ → List (Step F) → Type 0
+ArePlaced n [] = Unit {0}
+ArePlaced n (event (accepted k facts) ∷ wire) = (k < n) × ArePlaced n wire
+ArePlaced n (event connected ∷ wire) = ArePlaced n wire
+ArePlaced n (event (received s bytes) ∷ wire) = ArePlaced n wire
+ArePlaced n (event (closed s) ∷ wire) = ArePlaced n wire
+ArePlaced n (event drain ∷ wire) = ArePlaced n wire
+ArePlaced n (sent s bytes ∷ wire) = ArePlaced n wire
+
 -- what is kept of the wire: which places are open, whether the stream of updates is, and whether the server is to end
 pub record IsKept {F : Type 0} (wire : List (Step F)) (places : List Bool) (is_up is_ending : Bool) : Type 0 where
   pub open_places : (k : ℕ) → open_at (Place k) wire ≡ get_or places k false
   pub updates : open_at Updates wire ≡ is_up
   pub ending : is_told wire ≡ is_ending
+  pub placed : ArePlaced (length places) wire
 
 -- a service after this past, set up with this: these turns, and before them the past; and the same setup
 pub record IsAfter {F Setup : Type 0} (past : List (Turn F)) (first : Setup) (turns : List (Turn F)) (setup : Setup) : Type 0 where

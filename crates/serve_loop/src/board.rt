@@ -1,5 +1,6 @@
 //! The board joins a network to a service and an observer. It alone calls them, so the bytes on the wire are those that
 //! the service took and answered, whatever the loop above does.
+ghost use Rattle.std.specs.Prelude.{◌≡◌, length};
 ghost use Rattle.serve_loop.specs.Law.{Belong, IsKept};
 
 use crate::attempt::Attempt;
@@ -26,6 +27,7 @@ pub struct Board<F, N: Network<F>, S: Service<F>, O: Observer<F, S>> {
     is_ending: bool,
     ghost belongs: { ∥ Belong (N.wire parties.network) (S.turns parties.service) (O.seen parties.observer) ∥₁ },
     ghost kept: { ∥ IsKept (N.wire parties.network) places.items is_up is_ending ∥₁ },
+    ghost counted: { length places.items ≡ S.places (S.setup parties.service) },
 }
 
 impl<F: Drop, N: Network<F>, S: Service<F>, O: Observer<F, S>> Board<F, N, S, O> {
@@ -35,7 +37,7 @@ impl<F: Drop, N: Network<F>, S: Service<F>, O: Observer<F, S>> Board<F, N, S, O>
     ghost use Rattle.serve_loop.specs.Attempts.{Closes, Tries, Writes};
     ghost use Rattle.serve_loop.specs.Law.{GoesOn};
 
-    /// A board of so many places, on which nothing has happened.
+    /// A board of so many places, on which nothing has happened. They are those that the service is set up with.
     pub fn new(
         alloc: Global,
         places: usize,
@@ -46,6 +48,7 @@ impl<F: Drop, N: Network<F>, S: Service<F>, O: Observer<F, S>> Board<F, N, S, O>
         requires wire { N.wire network ≡ [] }
         requires turns { S.turns service ≡ [] }
         requires seen { O.seen observer ≡ [] }
+        requires count { places ≡ S.places (S.setup service) }
         ensures { IfOk result (λ b. (b.parties.network ≡ network) × (b.parties.service ≡ service) × (b.parties.observer ≡ observer)) }
     {
         Ok(Board {

@@ -85,6 +85,7 @@ impl<F: Drop, N: Network<F>, S: Service<F>, O: Observer<F, S>> Parties<F, N, S, 
             → Belong (N.wire self.new.network) (S.turns self.new.service) (O.seen self.new.observer) }
         ensures goes_on { GoesOn S.turns S.setup self.old.service self.new.service }
         ensures tries { Tries (λ e. (facts : F) × (e ≡ accepted k facts)) (S.turns self.old.service) result (S.turns self.new.service) }
+        ensures count { length places.new.items ≡ length places.old.items }
         ensures kept { (is_up is_ending : Bool) → IsKept (N.wire self.old.network) places.old.items is_up is_ending
             → IsKept (N.wire self.new.network) places.new.items is_up is_ending }
     {
@@ -171,6 +172,7 @@ impl<F: Drop, N: Network<F>, S: Service<F>, O: Observer<F, S>> Parties<F, N, S, 
         ensures goes_on { GoesOn S.turns S.setup self.old.service self.new.service }
         ensures closes { (effect : Effect) × (S.turns self.new.service ≡ took (closed (Place k)) effect ∷ S.turns self.old.service) }
         ensures wire { N.wire self.new.network ≡ event (closed (Place k)) ∷ N.wire self.old.network }
+        ensures count { length places.new.items ≡ length places.old.items }
         ensures kept { (is_up is_ending : Bool) → IsKept (N.wire self.old.network) places.old.items is_up is_ending
             → IsKept (N.wire self.new.network) places.new.items is_up is_ending }
     {

@@ -33,6 +33,9 @@ pub trait Service<F>: Drop {
     /// What it is set up with. No event changes that.
     ghost setup: { Self → Self.Setup };
 
+    /// In how many places connections are accepted, by what it is set up with.
+    ghost places: { Self.Setup → ℕ };
+
     /// How many bytes of a stream it takes.
     ghost takes: { Self → Stream → ℕ };
 

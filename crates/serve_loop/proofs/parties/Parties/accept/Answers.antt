@@ -1,5 +1,6 @@
 -- A connection was accepted, or none.
-use Rattle.std.proofs.Common.{ap, ◌∙◌}
+use Rattle.std.proofs.Common.{ap, ◌∙◌, true}
+use Rattle.std.proofs.lemmas.List.{length-set}
 use Rattle.serve_loop.specs.History.{accepted}
 use Rattle.serve_loop.proofs.Histories.{belong_still, belong_took, kept_still, kept_accepted, goes_still, goes_took}
 use Rattle.serve_loop.proofs.parties.Parties.accept.Goals as goal
@@ -25,3 +26,6 @@ returns-in-Ok-clause-goes_on g c = goes_took _ _ _ _ c.deliver.ensures.setup _ c
 
 pub returns-in-Err-clause-goes_on : goal.returns-in-Err-clause-goes_on
 returns-in-Err-clause-goes_on g c = goes_still _ _ _ _ (ap g.S.Service.setup c.failed.ensures.service) (ap g.S.Service.turns c.failed.ensures.service)
+
+pub returns-in-Ok-clause-count : goal.returns-in-Ok-clause-count
+returns-in-Ok-clause-count g c = rw c.put_place.ensures (length-set _ c.args.k true)

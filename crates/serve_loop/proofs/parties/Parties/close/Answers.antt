@@ -1,5 +1,6 @@
 -- A connection was closed.
-use Rattle.std.proofs.Common.{ap, ◌∙◌}
+use Rattle.std.proofs.Common.{ap, ◌∙◌, false}
+use Rattle.std.proofs.lemmas.List.{length-set}
 use Rattle.serve_loop.specs.History.{closed}
 use Rattle.serve_loop.proofs.Histories.{belong_took, kept_closed, goes_took}
 use Rattle.serve_loop.proofs.parties.Parties.close.Goals as goal
@@ -14,3 +15,6 @@ returns-clause-kept g c = λ is_up is_ending k. rw c.put_place.ensures (kept_clo
 
 pub returns-clause-goes_on : goal.returns-clause-goes_on
 returns-clause-goes_on g c = goes_took _ _ _ _ c.deliver.ensures.setup _ c.deliver.ensures.took
+
+pub returns-clause-count : goal.returns-clause-count
+returns-clause-count g c = rw c.put_place.ensures (length-set _ c.args.k false)
