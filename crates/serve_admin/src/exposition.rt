@@ -125,6 +125,8 @@ fn add_connections(text: &mut MetricsText, metrics: &Metrics) -> Result<(), Allo
         help,
         metrics.most_open,
     )?;
+    let help = "The greatest number of connections that may be open at once.";
+    text.single("rbacd_connections_limit", Kind::Gauge, help, metrics.limit)?;
     let help = "Connections that were accepted.";
     text.single(
         "rbacd_connections_accepted_total",
@@ -155,6 +157,13 @@ fn add_updates(text: &mut MetricsText, metrics: &Metrics) -> Result<(), AllocErr
         Kind::Gauge,
         help,
         u64::from(metrics.stream_up),
+    )?;
+    let help = "Failed tries to reach the control plane, or to look at its file.";
+    text.single(
+        "rbacd_control_errors_total",
+        Kind::Counter,
+        help,
+        metrics.control_errors,
     )?;
     let name = "rbacd_responses_total";
     text.family(

@@ -1,4 +1,5 @@
 //! The counters of a server.
+ghost use Rattle.std.specs.Prelude.{◌≡◌};
 
 use crate::counter::count_in;
 use crate::faults::StatusCounts;
@@ -20,12 +21,15 @@ pub struct Metrics {
     pub(crate) refused_connections: u64,
     pub(crate) open: u64,
     pub(crate) most_open: u64,
+    // how many may be open; 0 if that is not known
+    pub(crate) limit: u64,
     pub(crate) closed: [u64; REASONS.len()],
     pub(crate) responses_accepted: u64,
     pub(crate) responses_refused: u64,
     pub(crate) admissions: Histogram,
     pub(crate) slowest: Slowest,
     pub(crate) stream_up: bool,
+    pub(crate) control_errors: u64,
     pub(crate) dropped_lines: u64,
     pub(crate) recent: Recent,
 }
@@ -46,12 +50,14 @@ impl Metrics {
             refused_connections: 0,
             open: 0,
             most_open: 0,
+            limit: 0,
             closed: [0; REASONS.len()],
             responses_accepted: 0,
             responses_refused: 0,
             admissions: Histogram::new(),
             slowest: Slowest::new(alloc),
             stream_up: false,
+            control_errors: 0,
             dropped_lines: 0,
             recent: Recent::new(alloc)?,
         })
@@ -103,6 +109,13 @@ impl Metrics {
         self.most_open = self.most_open.max(self.open);
     }
 
+    /// So many connections may be open at once.
+    pub fn set_limit(&mut self, connections: u64)
+        ensures { self.new ≡ record self.old { limit = connections } }
+    {
+        self.limit = connections;
+    }
+
     /// A connection is no longer served.
     pub fn closed(&mut self, why: Closed) {
         self.open = self.open.saturating_sub(1);
@@ -128,9 +141,12 @@ impl Metrics {
         self.slowest.offer(self.alloc, version, time, microseconds)
     }
 
-    /// The update stream came up, or was lost.
-    pub fn stream(&mut self, up: bool) {
-        self.stream_up = up;
+    /// Whether the control plane can be reached and its file can be read, and how often either failed.
+    pub fn set_control(&mut self, is_up: bool, errors: u64)
+        ensures { self.new ≡ record self.old { stream_up = is_up; control_errors = errors } }
+    {
+        self.stream_up = is_up;
+        self.control_errors = errors;
     }
 
     /// So many lines of a log were dropped.

@@ -1,3 +1,4 @@
+mod LeastTimes
 mod PieceLemmas
 mod Requests
 mod ServingLemmas

@@ -1,6 +1,9 @@
 //! The connections of the admin port.
+ghost use Rattle.std.specs.Prelude.{◌≡◌, true, false, None};
+ghost use Rattle.serve_host.specs.Earliest.{IsEarliest};
 
 use crate::admin_stream::{AdminStream, Next};
+use crate::times::earliest;
 use serve_admin::{Admin, AdminConnection};
 use serve_net::{Places, Sockets};
 use std::alloc::{AllocError, Global};
@@ -12,6 +15,8 @@ use std::rt::Clock;
 
 /// How many connections to the admin port are served at once.
 const PLACES: usize = 16;
+/// One place more is only for a connection that takes the place of the one that is silent for the longest time.
+const ALL_PLACES: usize = PLACES + 1;
 /// How long such a connection may take, in milliseconds.
 const TIME: u64 = 10_000;
 
@@ -48,7 +53,7 @@ impl AdminPort {
         Ok(AdminPort {
             alloc,
             keys,
-            admin_streams: Places::new(alloc, PLACES)?,
+            admin_streams: Places::new(alloc, ALL_PLACES)?,
         })
     }
 
@@ -69,7 +74,7 @@ impl AdminPort {
         for at in 0..count {
             if let Some(k) = ready.due.get(at) {
                 let k = *k;
-                if self.visit(k, admin) == Next::Again {
+                if self.visit(k, admin, now) == Next::Again {
                     ready.due.push(k)?;
                 }
             }
@@ -80,8 +85,8 @@ impl AdminPort {
         Ok(())
     }
 
-    // Accepts the next connection, if there is a place. If the system has no room for it, it is tried again in a later
-    // turn.
+    // Accepts the next connection. If all places are taken then, the one that is silent for the longest time is closed. If
+    // the system has no room for it, it is tried again in a later turn.
     fn accept<R: Net + Files + Clock + Input>(
         &mut self,
         sockets: &mut Sockets<'_, R>,
@@ -93,9 +98,14 @@ impl AdminPort {
         };
         match sockets.accept_admin(k) {
             Ok(stream) => {
+                let heard = self.heard();
                 let connection = AdminConnection::new(self.alloc, self.keys);
                 self.admin_streams
                     .put(k, AdminStream::new(stream, connection, now));
+                let has_free = self.admin_streams.first_free().is_some();
+                if let Some(longest) = given_up(has_free, &heard) {
+                    self.admin_streams.free(longest);
+                }
                 ready.due.push(k)?;
                 Ok(())
             }
@@ -106,10 +116,21 @@ impl AdminPort {
         }
     }
 
+    // When each connection was heard last, by place; none where none is open.
+    fn heard(&self) -> [Option<u64>; ALL_PLACES] {
+        let mut times: [Option<u64>; ALL_PLACES] = [None; ALL_PLACES];
+        for (k, time) in times.iter_mut().enumerate() {
+            if let Some(admin_stream) = self.admin_streams.get(k) {
+                *time = Some(admin_stream.heard());
+            }
+        }
+        times
+    }
+
     // One turn of the connection in a place.
-    fn visit(&mut self, k: usize, admin: &mut Admin) -> Next {
+    fn visit(&mut self, k: usize, admin: &mut Admin, now: u64) -> Next {
         let next = match self.admin_streams.get_mut(k) {
-            Some(admin_stream) => admin_stream.turn(admin),
+            Some(admin_stream) => admin_stream.turn(admin, now),
             None => Next::Waits,
         };
         if next == Next::Over {
@@ -130,4 +151,16 @@ impl AdminPort {
             }
         }
     }
+}
+
+// Whose place is freed, of connections that were heard last at these times: none while a place is free, and else that of
+// the one that is silent for the longest time.
+fn given_up(has_free: bool, heard: &[Option<u64>]) -> Option<usize>
+    ensures free { has_free ≡ true → result ≡ None }
+    ensures full { has_free ≡ false → IsEarliest heard.now result }
+{
+    if has_free {
+        return None;
+    }
+    earliest(heard)
 }

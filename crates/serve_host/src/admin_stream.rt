@@ -17,6 +17,8 @@ pub(crate) struct AdminStream {
     connection: AdminConnection,
     // when it was opened, in milliseconds since a fixed time
     since: u64,
+    // when it was last heard
+    heard: u64,
     // whether its answer was sent, and it is read until the other end closes
     lingers: bool,
 }
@@ -39,6 +41,7 @@ impl AdminStream {
             stream,
             connection,
             since,
+            heard: since,
             lingers: false,
         }
     }
@@ -48,13 +51,18 @@ impl AdminStream {
         now.saturating_sub(self.since) > than
     }
 
+    /// When it was last heard.
+    pub(crate) fn heard(&self) -> u64 {
+        self.heard
+    }
+
     /// Reads, answers and writes until neither goes on.
-    pub(crate) fn turn(&mut self, admin: &mut Admin) -> Next {
+    pub(crate) fn turn(&mut self, admin: &mut Admin, now: u64) -> Next {
         if self.lingers {
             return self.drop_bytes();
         }
         if self.connection.output().is_empty() && !self.connection.is_done() {
-            match self.read(admin) {
+            match self.read(admin, now) {
                 Next::Again => {}
                 next => return next,
             }
@@ -70,20 +78,23 @@ impl AdminStream {
     }
 
     // One read of a request.
-    fn read(&mut self, admin: &mut Admin) -> Next {
+    fn read(&mut self, admin: &mut Admin, now: u64) -> Next {
         let mut room = [0u8; CHUNK];
         match self.stream.read(&mut room) {
             Ok(0) => match self.connection.ended(admin) {
                 Ok(()) => Next::Again,
                 Err(AllocError) => Next::Over,
             },
-            Ok(count) => match self
-                .connection
-                .feed(admin, room.get(..count).unwrap_or(&[]))
-            {
-                Ok(()) => Next::Again,
-                Err(AllocError) => Next::Over,
-            },
+            Ok(count) => {
+                self.heard = now;
+                match self
+                    .connection
+                    .feed(admin, room.get(..count).unwrap_or(&[]))
+                {
+                    Ok(()) => Next::Again,
+                    Err(AllocError) => Next::Over,
+                }
+            }
             Err(error) => after(error.kind()),
         }
     }

@@ -3,6 +3,7 @@
 
 mod admin_port;
 mod admin_stream;
+mod descriptors;
 mod errors;
 mod facts;
 mod fault;
@@ -13,6 +14,7 @@ mod process;
 mod request_reader;
 mod serving;
 mod streams;
+mod times;
 mod upkeep;
 
 pub use fault::HostFault;

@@ -8,7 +8,7 @@ use crate::streams::HostStreams;
 use attributes::Conn;
 use serve_admin::Admin;
 use serve_loop::{CloseReason, Event, Network, Ready, Stream, Waited};
-use serve_net::Sockets;
+use serve_net::{Look, Sockets};
 use serve_observe::micros;
 use serve_trace::{Note, Trace};
 use std::alloc::{AllocError, Global};
@@ -84,6 +84,13 @@ impl<'r, R: Net + Files + Clock + Input> HostNetwork<'r, R> {
     /// Why the last call to a control plane of gRPC ended, if that was not taken yet.
     pub(crate) fn take_end_words(&self) -> Option<String> {
         self.sockets.take_end_words()
+    }
+
+    /// What the last look at the control plane's file found, if that is to be reported and was not taken yet.
+    pub(crate) fn take_look(&mut self) -> Option<Look>
+        ensures { self.new.trace ≡ self.old.trace }
+    {
+        self.sockets.take_look()
     }
 
     // Waits, and sorts what is ready: the loop's, and the admin port's. Returns the time.

@@ -5,6 +5,7 @@ ghost use Rattle.serve_loop.specs.Law.{wire_of};
 ghost use Rattle.serve_core.specs.MappedHeadline.{SettingsHeadline};
 
 use crate::admin_port::AdminPort;
+use crate::descriptors::{fitting, open_files};
 use crate::errors::{errors_of, taken_streams};
 use crate::fault::HostFault;
 use crate::network::HostNetwork;
@@ -20,6 +21,7 @@ use serve_observe::{Accesses, Logs, Observers, unix_millis};
 use serve_trace::Trace;
 use std::alloc::{AllocError, Global};
 use std::hash::RandomState;
+use std::io::Write;
 
 /// A server that ended.
 #[derive(Drop)]
@@ -55,6 +57,22 @@ pub fn host(
     host_by(alloc, rt, &config, conn, &settings)
 }
 
+// Says so on standard error if the system's limit of open files leaves room for fewer connections than are set.
+fn report_limit(rt: &HostRuntime, settings: &ServeConfig) {
+    let Some(limit) = open_files(rt) else {
+        return;
+    };
+    let set = settings.connections;
+    let fit = fitting(set, limit);
+    if fit < set {
+        let mut errors = errors_of(rt);
+        let _ = writeln!(
+            errors,
+            "the limit of open files is {limit}: it leaves room for {fit} of {set} connections"
+        );
+    }
+}
+
 // The same, by settings that live as long as the server.
 fn host_by<'m, 'r>(
     alloc: Global,
@@ -67,6 +85,7 @@ fn host_by<'m, 'r>(
     ensures told { IfOk result (λ ended. ended.fault ≡ None → is_told (wire_of ended.trace.turns) ≡ true) }
 {
     let _streams = taken_streams(alloc, rt)?;
+    report_limit(rt, settings);
     let network = network_of(alloc, rt, conn, settings)?;
     let observers = observers_of(alloc, rt, config, settings)?;
     let upkeep = upkeep_of(alloc, rt, settings)?;
@@ -121,7 +140,8 @@ fn observers_of<'r>(
 {
     let node = String::from_str(alloc, config.node())?;
     let filters = filters_of(alloc, config)?;
-    let admin = Admin::new(alloc, node, unix_millis(rt), filters)?;
+    let mut admin = Admin::new(alloc, node, unix_millis(rt), filters)?;
+    admin.metrics.set_limit(settings.connections as u64);
     let logs = logs_of(alloc, rt, config, settings)?;
     Ok(Observers::new(alloc, rt, settings.connections, admin, logs)?)
 }

@@ -1,6 +1,7 @@
 //! What is done between the turns of the loop: the admin port is served, logs are written, and the status is brought up
 //! to date.
-ghost use Rattle.std.specs.Prelude.{◌≤◌, ◌-◌, ◌↔◌, ⊤, IsTrue, MatchOption};
+ghost use Rattle.std.specs.Prelude.{◌≡◌};
+ghost use Rattle.serve_host.specs.Looks.{after_look};
 
 use crate::admin_port::AdminPort;
 use crate::network::HostNetwork;
@@ -9,7 +10,8 @@ use serve_admin::{Admin, AdminAction};
 use serve_core::Served;
 use serve_log::{LogFiles, LogWriter};
 use serve_loop::Upkeep;
-use serve_observe::{Logs, Observers};
+use serve_net::Look;
+use serve_observe::{Logs, Observers, is_due};
 use std::alloc::AllocError;
 use std::fs::{self, File, Files};
 use std::io::{self, ErrorKind, Input, Read, Write};
@@ -18,8 +20,6 @@ use std::rt::Clock;
 
 /// How often the memory that the process takes is read, and faults of logs are reported, in milliseconds.
 const PAUSE: u64 = 1_000;
-/// How often it is reported at most that connections cannot be accepted, or that the record was removed, in milliseconds.
-const SILENCE: u64 = 60_000;
 /// How many logs there are, of which each may report its faults.
 const LOGS: u8 = 3;
 /// The size of a page of memory in bytes, on x86-64.
@@ -149,6 +149,9 @@ impl<'m, 'r, R: Net + Files + Clock + Input, F: LogFiles + Drop> Upkeep<
         if let Some(cause) = network.take_end_words() {
             observer.log_end(cause.as_str());
         }
+        if let Some(look) = network.take_look() {
+            report_look(observer, &look, now);
+        }
         observer.admin.status.drains = network.drains;
         observer.admin.metrics.tick(now);
         observer.logs.flush(now);
@@ -166,13 +169,18 @@ impl<'m, 'r, R: Net + Files + Clock + Input, F: LogFiles + Drop> Upkeep<
     }
 }
 
-// Whether something is to be reported that was last reported at this time, if it was.
-fn is_due(last: Option<u64>, now: u64) -> bool
-    ensures { IsTrue result ↔ MatchOption last ⊤ (λ time. 60000 ≤ now - time) }
+// Reports what a look at the control plane's file found at this time.
+fn report_look<R: Clock, F: LogFiles + Drop>(
+    observer: &mut Observers<'_, R, F>,
+    look: &Look,
+    now: u64,
+)
+    ensures trace { observer.new.trace ≡ observer.old.trace }
+    ensures control { observer.new.control ≡ after_look look.now now observer.old.control }
 {
-    match last {
-        Some(last) => now.saturating_sub(last) >= SILENCE,
-        None => true,
+    match look {
+        Look::Failed(cause) => observer.look_failed(cause, now),
+        Look::Works => observer.look_worked(),
     }
 }
 

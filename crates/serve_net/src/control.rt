@@ -1,7 +1,7 @@
 //! The way to the control plane.
 
 use crate::call_fields::call_fields;
-use crate::file::WatchedFile;
+use crate::file::{Look, WatchedFile};
 use crate::grpc::{GrpcStream, Shared};
 use crate::link::Link;
 use crate::stream::NetStream;
@@ -77,6 +77,14 @@ impl ControlPlane {
     pub(crate) fn take_end_words(&self) -> Option<String> {
         match self {
             ControlPlane::Grpc(plane) => plane.shared.end_words.take(),
+            _ => None,
+        }
+    }
+
+    /// What the last look at its file found, if that is to be reported and was not taken yet.
+    pub(crate) fn take_look(&mut self) -> Option<Look> {
+        match self {
+            ControlPlane::File(file) => file.take_look(),
             _ => None,
         }
     }

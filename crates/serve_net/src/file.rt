@@ -25,6 +25,15 @@ enum Contents {
 // Where contents wait for their stream. Newer ones replace those that wait.
 type Inbox = Arc<Cell<Option<Contents>>, Global>;
 
+/// What a look at the file of a control plane found, where that is to be reported.
+#[derive(Drop)]
+pub enum Look {
+    /// It cannot be read, for this cause. What was read before stays.
+    Failed(io::Error),
+    /// It can be read again.
+    Works,
+}
+
 /// What distinguishes one state of a file from another: which file it is, its length, and when its contents and its inode were
 /// last changed. Programs can set the first time back, but not the second.
 #[derive(Clone, Copy, PartialEq, Eq)]
@@ -62,6 +71,10 @@ pub(crate) struct WatchedFile {
     is_new: bool,
     // when the file was last looked at
     looked: u64,
+    // whether the last look failed
+    fails: bool,
+    // what is to be reported of it
+    report: Option<Look>,
 }
 
 impl WatchedFile {
@@ -72,7 +85,14 @@ impl WatchedFile {
             inbox: None,
             is_new: false,
             looked: 0,
+            fails: false,
+            report: None,
         }
+    }
+
+    /// What the last look found, if that is to be reported and was not taken yet.
+    pub(crate) fn take_look(&mut self) -> Option<Look> {
+        self.report.take()
     }
 
     /// A stream of what the file has now. Fails if it cannot be read.
@@ -87,6 +107,7 @@ impl WatchedFile {
         self.inbox = Some(inbox);
         self.stamp = Some(stamp);
         self.is_new = true;
+        self.fails = false;
         Ok(stream)
     }
 
@@ -96,7 +117,7 @@ impl WatchedFile {
     }
 
     /// Whether the stream has something new: it was opened, or the file has changed since. The file is looked at once a
-    /// second. If it cannot be read, the earlier contents stay.
+    /// second. If it cannot be read, the earlier contents stay, and that is to be reported.
     pub(crate) fn look<R: Files>(&mut self, alloc: Global, rt: &R, now: u64) -> bool {
         if self.is_new {
             self.is_new = false;
@@ -111,15 +132,30 @@ impl WatchedFile {
             Some(inbox) if Arc::strong_count(inbox) > 1 => {}
             _ => return false,
         }
-        self.has_changed(rt) && self.renew(alloc, rt).is_ok()
+        match self.refresh(alloc, rt) {
+            Ok(is_read) => {
+                if self.fails {
+                    self.report = Some(Look::Works);
+                }
+                self.fails = false;
+                is_read
+            }
+            Err(error) => {
+                self.fails = true;
+                self.report = Some(Look::Failed(error));
+                false
+            }
+        }
     }
 
-    // Whether the file is there and has changed since it was read.
-    fn has_changed<R: Files>(&self, rt: &R) -> bool {
-        match fs::metadata(rt, self.path.as_str()) {
-            Ok(found) => Some(Stamp::of(&found)) != self.stamp,
-            Err(_) => false,
+    // Reads the file again if it has changed since it was read. Returns whether it was read.
+    fn refresh<R: Files>(&mut self, alloc: Global, rt: &R) -> io::Result<bool> {
+        let found = fs::metadata(rt, self.path.as_str())?;
+        if Some(Stamp::of(&found)) == self.stamp {
+            return Ok(false);
         }
+        self.renew(alloc, rt)?;
+        Ok(true)
     }
 
     // Reads the file for the stream.
@@ -143,7 +179,7 @@ impl WatchedFile {
     }
 }
 
-// Reads to the end, or until there are too many bytes.
+// Reads to the end, or until there are too many bytes. A file without bytes is a fault.
 fn read_contents<F: Read>(alloc: Global, file: &mut F) -> io::Result<Contents> {
     let mut bytes = Vec::new(alloc);
     let mut room = [0u8; 16_384];
@@ -157,6 +193,9 @@ fn read_contents<F: Read>(alloc: Global, file: &mut F) -> io::Result<Contents> {
             Err(error) if error.kind() == ErrorKind::Interrupted => {}
             Err(error) => return Err(error),
         }
+    }
+    if bytes.is_empty() {
+        return Err(io::Error::new(ErrorKind::InvalidData, "the file is empty"));
     }
     Ok(contents_of(alloc, &bytes)?)
 }

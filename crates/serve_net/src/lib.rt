@@ -28,7 +28,7 @@ mod unix_path;
 pub use accepted::Accepted;
 pub use event::Ready;
 pub use fault::OpenFault;
-pub use file::{FileStream, MOST_CONTENTS};
+pub use file::{FileStream, Look, MOST_CONTENTS};
 pub use grpc::GrpcStream;
 pub use nonblocking::unblock;
 pub use places::Places;

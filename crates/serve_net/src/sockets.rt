@@ -4,6 +4,7 @@ use crate::accepted::Accepted;
 use crate::control::ControlPlane;
 use crate::event::{self, Ready};
 use crate::fault::OpenFault;
+use crate::file::Look;
 use crate::input::StandardInput;
 use crate::listeners::{Listeners, opened};
 use crate::stream::NetStream;
@@ -175,6 +176,11 @@ impl<'r, R: Net + Files + Clock + Input> Sockets<'r, R> {
     /// Why the last call to a control plane of gRPC ended, in words, if that was not taken yet.
     pub fn take_end_words(&self) -> Option<String> {
         self.control.take_end_words()
+    }
+
+    /// What the last look at the control plane's file found, if that is to be reported and was not taken yet.
+    pub fn take_look(&mut self) -> Option<Look> {
+        self.control.take_look()
     }
 
     /// The addresses at which TCP connections are accepted. Those of inherited sockets come first, and then the others,

@@ -7,3 +7,4 @@ pub mod Losses
 pub mod Entries
 pub mod Decisions
 pub mod Responses
+pub mod Control

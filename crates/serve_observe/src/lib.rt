@@ -4,6 +4,8 @@
 mod access_log;
 mod clocks;
 mod connections;
+mod control;
+pub mod laws;
 mod logs;
 mod metrics;
 mod observers;
@@ -15,5 +17,6 @@ mod update_log;
 
 pub use access_log::Accesses;
 pub use clocks::{micros, unix_millis};
+pub use control::is_due;
 pub use logs::Logs;
 pub use observers::Observers;

@@ -1,18 +1,22 @@
 //! What sees each event of a server: it is counted, logged and recorded. None of that has an effect on the service.
-ghost use Rattle.std.specs.Prelude.{◌≡◌, [], ◌∷◌, IfOk};
+ghost use Rattle.std.specs.Prelude.{◌≡◌, [], ◌∷◌, IfOk, is_some};
 ghost use Rattle.serve_loop.specs.Events.{event_view};
 ghost use Rattle.serve_loop.specs.Law.{events_of};
+ghost use Rattle.serve_observe.specs.Control.{Shows, after_event, after_failed_look, after_failed_opening, after_good_look, no_control};
 
 use crate::access_log::DecisionContext;
 use crate::clocks::{micros, unix_millis};
 use crate::connections::Connections;
+use crate::control::ControlState;
 use crate::logs::Logs;
 use crate::metrics::{closed_of, count_decision, count_judgement, count_unjudged};
 use crate::record::{Entry, client_entries, entry_of, record};
 use crate::responses::JudgedResponse;
 use crate::sample::Sample;
 use crate::status::{note_judgement, note_loss, note_up};
-use crate::update_log::{BytesEnd, Loss, bytes_end, log_judgement, log_loss, log_update, loss_of};
+use crate::update_log::{
+    BytesEnd, Loss, bytes_end, log_judgement, log_loss, log_unreachable, log_update, loss_of,
+};
 use ads::Client;
 use attributes::Conn;
 use http_front::Reply;
@@ -39,6 +43,7 @@ pub struct Observers<'r, R: Clock, F: LogFiles + Drop> {
     /// The logs and the record.
     pub logs: Logs<F>,
     connections: Connections,
+    control: ControlState,
     // the decisions whose steps are counted
     sample: Sample,
     // why the last bytes of the update stream end it
@@ -59,7 +64,8 @@ impl<'r, R: Clock, F: LogFiles + Drop> Observers<'r, R, F> {
         admin: Admin,
         logs: Logs<F>,
     ) -> Result<Observers<'r, R, F>, AllocError>
-        ensures { IfOk result (λ o. o.trace.turns ≡ []) }
+        ensures trace { IfOk result (λ o. o.trace.turns ≡ []) }
+        ensures control { IfOk result (λ o. o.control ≡ no_control) }
     {
         Ok(Observers {
             alloc,
@@ -67,6 +73,7 @@ impl<'r, R: Clock, F: LogFiles + Drop> Observers<'r, R, F> {
             admin,
             logs,
             connections: Connections::new(alloc, places)?,
+            control: ControlState::new(),
             sample: Sample::new(STEPS_SAMPLE),
             end: None,
             looked: 0,
@@ -89,6 +96,54 @@ impl<'r, R: Clock, F: LogFiles + Drop> Observers<'r, R, F> {
         let time = unix_millis(self.rt);
         let update = Update::Ended(cause);
         log_update(self.alloc, &mut self.logs.updates, time, &update);
+    }
+
+    /// A look at the file of the control plane failed at this time, in milliseconds since a fixed time, for this cause. That
+    /// is counted, and logged at most once a minute. The stream counts as down.
+    pub fn look_failed(&mut self, cause: &io::Error, now: u64)
+        ensures trace { self.new.trace ≡ self.old.trace }
+        ensures control { self.new.control ≡ after_failed_look now self.old.control }
+        ensures shown { Shows self.new.control self.new.admin.metrics }
+    {
+        let time = unix_millis(self.rt);
+        let mut control = self.control;
+        if control.is_up() {
+            note_loss(self.alloc, &mut self.admin.status, time, Loss::Unreachable);
+        }
+        if control.look_fails(now) {
+            log_unreachable(self.alloc, &mut self.logs.updates, time, cause);
+        }
+        self.set_control(control);
+    }
+
+    /// A look at the file of the control plane does not fail any more. That is logged if the log says that it could not be
+    /// read. The stream counts as up if it is open.
+    pub fn look_worked(&mut self)
+        ensures trace { self.new.trace ≡ self.old.trace }
+        ensures control { self.new.control ≡ after_good_look self.old.control }
+        ensures shown { Shows self.new.control self.new.admin.metrics }
+    {
+        let time = unix_millis(self.rt);
+        let mut control = self.control;
+        if control.look_works() {
+            log_update(self.alloc, &mut self.logs.updates, time, &Update::Up);
+        }
+        if control.is_up() {
+            note_up(&mut self.admin.status, time);
+        }
+        self.set_control(control);
+    }
+
+    // This is known of the control plane from now on, and the metrics show it.
+    fn set_control(&mut self, control: ControlState)
+        ensures trace { self.new.trace ≡ self.old.trace }
+        ensures control { self.new.control ≡ control }
+        ensures shown { Shows control self.new.admin.metrics }
+    {
+        self.admin
+            .metrics
+            .set_control(control.is_up(), control.errors());
+        self.control = control;
     }
 
     // Numbers the connection that an event opens. Without an outcome memory ran out, and the connection has no number.
@@ -222,7 +277,6 @@ impl<'r, R: Clock, F: LogFiles + Drop> Observers<'r, R, F> {
         let time = unix_millis(self.rt);
         note_up(&mut self.admin.status, time);
         log_update(self.alloc, &mut self.logs.updates, time, &Update::Up);
-        self.admin.metrics.stream(true);
     }
 
     // The update stream delivered bytes. Judging a response that they complete took so many microseconds.
@@ -265,26 +319,20 @@ impl<'r, R: Clock, F: LogFiles + Drop> Observers<'r, R, F> {
         }
     }
 
-    // The update stream could not be connected, for this cause.
-    fn unreachable(&mut self, cause: &io::Error)
-        ensures { self.new.trace ≡ self.old.trace }
-    {
-        let alloc = self.alloc;
-        let time = unix_millis(self.rt);
-        note_loss(alloc, &mut self.admin.status, time, Loss::Unreachable);
-        if let Ok(text) = format!(in alloc; "{cause}") {
-            let update = Update::Unreachable(text.as_str());
-            log_update(alloc, &mut self.logs.updates, time, &update);
-        }
-        self.admin.metrics.stream(false);
-    }
-
     // The update stream was lost.
     fn lost(&mut self, loss: Loss) {
         let time = unix_millis(self.rt);
         note_loss(self.alloc, &mut self.admin.status, time, loss);
         log_loss(self.alloc, &mut self.logs.updates, time, loss);
-        self.admin.metrics.stream(false);
+    }
+
+    // The update stream could not be connected, for this cause.
+    fn unreachable(&mut self, cause: &io::Error)
+        ensures { self.new.trace ≡ self.old.trace }
+    {
+        let time = unix_millis(self.rt);
+        note_loss(self.alloc, &mut self.admin.status, time, Loss::Unreachable);
+        log_unreachable(self.alloc, &mut self.logs.updates, time, cause);
     }
 }
 
@@ -298,9 +346,13 @@ impl<'m, 'r, R: Clock, F: LogFiles + Drop> Observer<Conn, Served<'m>> for Observ
         service: &Served<'m>,
         now: u64,
     )
-        ensures { events_of self.new.trace.turns ≡ event_view event.now ∷ events_of self.old.trace.turns }
+        ensures seen { events_of self.new.trace.turns ≡ event_view event.now ∷ events_of self.old.trace.turns }
+        ensures control { self.new.control ≡ after_event (event_view event.now) (is_some outcome) self.old.control }
+        ensures shown { Shows self.new.control self.new.admin.metrics }
     {
         let trace = self.trace.then(&Note::Took(event));
+        let mut control = self.control;
+        control.see(event, outcome.is_some());
         let passed = self.passed(event, now);
         let number = self.number(event, outcome);
         let record = match entry_of(event, outcome, number, service) {
@@ -317,12 +369,17 @@ impl<'m, 'r, R: Clock, F: LogFiles + Drop> Observer<Conn, Served<'m>> for Observ
             Event::Drain => self.admin.status.drains = true,
         }
         self.look(event);
+        self.set_control(control);
         self.trace = trace;
     }
 
     fn failed(&mut self, failed: Failed, cause: io::Error)
-        ensures { events_of self.new.trace.turns ≡ events_of self.old.trace.turns }
+        ensures seen { events_of self.new.trace.turns ≡ events_of self.old.trace.turns }
+        ensures control { self.new.control ≡ after_failed_opening failed self.old.control }
+        ensures shown { Shows self.new.control self.new.admin.metrics }
     {
+        let mut control = self.control;
+        control.opening_fails(failed);
         match failed {
             Failed::Accept => {
                 self.admin.metrics.refused_connection();
@@ -330,5 +387,6 @@ impl<'m, 'r, R: Clock, F: LogFiles + Drop> Observer<Conn, Served<'m>> for Observ
             }
             Failed::Connect => self.unreachable(&cause),
         }
+        self.set_control(control);
     }
 }

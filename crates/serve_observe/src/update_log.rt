@@ -9,6 +9,7 @@ use serve_core::{LastEvent, OtherProtocol};
 use serve_log::{LogFile, LogFiles, Update, update_line};
 use serve_loop::CloseReason;
 use std::alloc::{AllocError, Global};
+use std::io;
 
 /// Why the bytes of an update stream end it.
 #[derive(Clone, Copy, PartialEq, Eq, Debug)]
@@ -89,6 +90,18 @@ pub(crate) fn log_update<F: LogFiles + Drop>(
 ) {
     if let Ok(line) = update_line(alloc, time, update) {
         file.line(line.as_str());
+    }
+}
+
+/// Logs that the control plane could not be reached, or that its file could not be read, for this cause.
+pub(crate) fn log_unreachable<F: LogFiles + Drop>(
+    alloc: Global,
+    file: &mut LogFile<F>,
+    time: u64,
+    cause: &io::Error,
+) {
+    if let Ok(cause) = format!(in alloc; "{cause}") {
+        log_update(alloc, file, time, &Update::Unreachable(cause.as_str()));
     }
 }
 

@@ -1,7 +1,8 @@
 -- By the setup of the service, which stays, and what happened on the wire.
 use Rattle.std.proofs.Common.{◌≡◌, refl, ◌∙◌}
 use Rattle.serve_core.specs.Served.{served_setup, served_turns}
-use Rattle.serve_host.proofs.ServingLemmas.{headline_of, setup_stays}
+use Rattle.serve_loop.proofs.Histories.{placed_on, setup_stays}
+use Rattle.serve_host.proofs.ServingLemmas.{headline_of}
 use Rattle.serve_host.proofs.serving.serve_by.Goals as goal
 
 pub returns-clause-headline : goal.returns-clause-headline
@@ -12,7 +13,8 @@ returns-clause-headline g c =
     rw c.into_network.ensures (headline_of c.args.config.now c.args.settings.now c.in_ok-service.service last _ _
     c.in_ok-service.ensures.setup
     (setup_stays served_turns served_setup c.in_ok-server.server.board.parties.service last c.run-server.ensures.goes_on ∙ begun)
-    c.run-server.result.0.board.belongs)
+    c.run-server.result.0.board.belongs
+    (placed_on _ _ _ _ _ c.run-server.result.0.board.counted c.run-server.result.0.board.kept))
 
 pub returns-clause-told : goal.returns-clause-told
 returns-clause-told g c = rw c.into_network.ensures c.run-server.ensures.told
