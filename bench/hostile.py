@@ -54,9 +54,12 @@ def deep_list(levels):
     return flag(2, 0) + text(7, b""), type_entry(0, inner)
 
 
-def empty_map():
-    """An empty map, and the entry with its type."""
-    return flag(2, 0) + text(8, b""), type_entry(0, text(7, text(1, INT) + text(2, INT)))
+def deep_map(levels):
+    """An empty map whose values are maps, in so many levels, and the entry with its type."""
+    inner = INT
+    for _ in range(levels):
+        inner = text(7, text(1, INT) + text(2, inner))
+    return flag(2, 0) + text(8, b""), type_entry(0, inner)
 
 
 def choices(branches):
@@ -346,10 +349,11 @@ def made_against_visits():
         yield f"11 nested loops of 2 turns, with {count} branches, each with {kind}", looped(
             names, choices([make(one, other) for one, other in two[:count]]))
     lists = (
-        ("450 empty maps", 4, *empty_map()),
+        ("450 empty maps", 4, *deep_map(1)),
         ("75 maps", 8, pairs((integer(1), integer(2))), b""),
         ("450 empty lists", 4, *deep_list(1)),
         ("450 empty lists of 50 levels", 4, *deep_list(50)),
+        ("450 empty maps of 50 levels", 4, *deep_map(50)),
     )
     for kind, count, item, entry in lists:
         items_of = items(*[item] * int(kind.split()[0]))

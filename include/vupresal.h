@@ -1,5 +1,6 @@
 /*
- * Vupresal in a process: RBAC filters, and the core of a proxy. C11 and C++17, x86-64 Linux.
+ * Vupresal in a process: RBAC filters, and the core of a proxy. C11 and C++17, x86-64 Linux; without a proof also
+ * aarch64 Linux and WebAssembly of 64 bits.
  *
  * A filter decides which requests pass. It is Envoy's message envoy.extensions.filters.http.rbac.v3.RBAC:
  *
@@ -51,6 +52,10 @@ extern "C" {
 /* The version of this header: a million for each first number, a thousand for each second one. */
 #define VUPRESAL_VERSION_NUMBER 1000
 #define VUPRESAL_VERSION_TEXT "0.1.0"
+
+/* The number of the ABI, which is also that of the shared library: libvupresal.so.0. As long as it stays, a later library has all
+   functions and structs of this header as they are here. */
+#define VUPRESAL_ABI 0u
 
 /* The greatest budget of a filter, in steps of its conditions. */
 #define VUPRESAL_MOST_BUDGET 100000000u
@@ -361,11 +366,12 @@ typedef struct vupresal_build {
 /* Tells what library this is. */
 void vupresal_version(vupresal_build *build);
 
-/* Whether the library is the one that this header was written for. Call it once, before anything else. */
+/* Whether the library is one that this header is for: of the same ABI, with the same structs, and of this version or a later one.
+ * Call it once, before anything else. */
 static inline bool vupresal_is_expected(void) {
   vupresal_build is;
   vupresal_version(&is);
-  return is.number == VUPRESAL_VERSION_NUMBER && is.build == sizeof(vupresal_build) && is.filter == sizeof(vupresal_filter) &&
+  return is.number / 1000000 == VUPRESAL_ABI && is.number >= VUPRESAL_VERSION_NUMBER && is.build == sizeof(vupresal_build) && is.filter == sizeof(vupresal_filter) &&
          is.proxy == sizeof(vupresal_proxy) && is.bounds == sizeof(vupresal_bounds) && is.facts == sizeof(vupresal_facts) &&
          is.line == sizeof(vupresal_line) && is.request == sizeof(vupresal_request) &&
          is.decision == sizeof(vupresal_decision) && is.resource == sizeof(vupresal_resource) &&

@@ -5,6 +5,7 @@ import importlib.util
 import ipaddress
 import json
 import random
+import re
 import subprocess
 import sys
 from pathlib import Path
@@ -46,6 +47,11 @@ class Trial(NamedTuple):
     message: bytes
     budget: int
     asked: List[Asked]
+
+
+def functions_of(header: str) -> List[str]:
+    """The functions that the library has, by its header."""
+    return sorted(set(re.findall(r"(?m)^(?!static)[a-z0-9_]+ (vupresal_\w+)\(", header)))
 
 
 def address_bytes(text: str) -> bytes:

@@ -17,6 +17,8 @@ import sys
 import tempfile
 import time
 
+from targets import TARGETS, retargeted
+
 TOP = pathlib.Path(__file__).resolve().parent.parent.parent
 CALLS = pathlib.Path(__file__).with_name("calls.rt.text")
 # the constant of the crate that says whether the library is proved
@@ -126,25 +128,47 @@ def exports():
     return {name: path.stem for path in sources for name in re.findall(r'pub extern "C" fn (\w+)', path.read_text())}
 
 
-def make_object(wanted, sees_races=False):
-    """Writes the library's object to this file; one whose accesses ThreadSanitizer sees, if that is asked for."""
+def shown_module(room, kit):
+    """The text of the module, in which the exports are visible."""
+    shown = room / "shown.ll"
+    words = [kit / "toolchain" / "bin" / "clang", "--no-default-config", f"--target={TARGETS['x86_64'].triple}", "-x", "ir", "-S", "-emit-llvm",
+             "-Xclang", "-disable-llvm-passes", module_of(room, kit), "-o", shown]
+    subprocess.run(words, check=True)
+    # a table for each function, by which debuggers and profilers find its caller
+    return re.sub(r"(?m)^(attributes #\d+ = \{)", r"\1 uwtable", exports_shown(shown.read_text(), exports()))
+
+
+def compile_object(kit, text, target, wanted, flags=("-O3",)):
+    """Compiles the module's text for this machine."""
+    clang = kit / "toolchain" / "bin" / "clang"
+    with tempfile.TemporaryDirectory(prefix="vupresal-") as folder:
+        source = pathlib.Path(folder) / "library.ll"
+        source.write_text(text if target == TARGETS["x86_64"] else retargeted(text, clang, target))
+        words = [clang, "--no-default-config", f"--target={target.triple}", "-x", "ir", *target.flags, *flags, "-c", source, "-o", wanted]
+        subprocess.run(words, check=True)
+
+
+def make_races(wanted):
+    """Writes an object of the library whose accesses ThreadSanitizer sees."""
     kit = kit_folder()
     with tempfile.TemporaryDirectory(prefix="vupresal-") as folder:
-        room = pathlib.Path(folder)
-        module = module_of(room, kit)
-        shown = room / "shown.ll"
-        compile_ir = [kit / "toolchain" / "bin" / "clang", "--no-default-config", "--target=x86_64-unknown-linux-gnu", "-x", "ir"]
-        subprocess.run([*compile_ir, "-S", "-emit-llvm", "-Xclang", "-disable-llvm-passes", module, "-o", shown], check=True)
-        text = exports_shown(shown.read_text(), exports())
-        flags = ["-O3"]
-        if sees_races:
-            text, flags = re.sub(r"(?m)^(attributes #\d+ = \{)", r"\1 sanitize_thread", text), ["-O1", "-fsanitize=thread"]
-        shown.write_text(text)
-        subprocess.run([*compile_ir, "-march=x86-64-v2", *flags, "-fPIC", "-ffunction-sections", "-fdata-sections", "-c", shown, "-o", wanted],
-                       check=True)
-        if sees_races:
-            subprocess.run(["objcopy", *(f"--redefine-sym=__tsan_{name}={name}" for name in OF_LATER_RUNTIMES), wanted], check=True)
+        text = re.sub(r"(?m)^(attributes #\d+ = \{)", r"\1 sanitize_thread", shown_module(pathlib.Path(folder), kit))
+        compile_object(kit, text, TARGETS["x86_64"], wanted, ("-O1", "-fsanitize=thread"))
+    subprocess.run(["objcopy", *(f"--redefine-sym=__tsan_{name}={name}" for name in OF_LATER_RUNTIMES), wanted], check=True)
+
+
+def make_objects(wanted):
+    """Writes an object of the library for each machine, to the file of its name."""
+    kit = kit_folder()
+    with tempfile.TemporaryDirectory(prefix="vupresal-") as folder:
+        text = shown_module(pathlib.Path(folder), kit)
+        for name, file in wanted.items():
+            compile_object(kit, text, TARGETS[name], file)
 
 
 if __name__ == "__main__":
-    make_object(pathlib.Path(sys.argv[-1]).resolve(), "--races" in sys.argv[1:-1])
+    file = pathlib.Path(sys.argv[-1]).resolve()
+    if "--races" in sys.argv[1:-1]:
+        make_races(file)
+    else:
+        make_objects({"x86_64": file})

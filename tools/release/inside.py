@@ -118,7 +118,8 @@ class Trial:
         self.runs("policy check", "policy check examples/condition.yaml", "admitted: policies 1")
         self.runs("policy test", "policy test examples/policies/condition.tests.yaml")
         self.runs("rbacd-bridge --help", "rbacd-bridge --help", "--control")
-        for page, wanted in (("rbacd", "rbacd serve"), ("policy", "policy"), ("rbacd-bridge", "control")):
+        for page, wanted in (("rbacd", "rbacd serve"), ("policy", "policy"), ("rbacd-bridge", "control"), ("vupresal", "vupresal_filter_admit"),
+                             ("vupresal_filter_share", "vupresal_filter_admit")):
             self.runs(f"man {page}", f"MANWIDTH=100 man -P cat {page} | sed 's/.\\x08//g'", wanted)
         self.runs("proof.txt", "cat proof.txt && cmp proof.txt /usr/share/doc/libvupresal0/proof.txt", f"program {summed('/usr/bin/rbacd')}")
 

@@ -28,6 +28,7 @@ Name: vupresal
 Description: RBAC filters, and the core of a proxy
 Version: {version}
 Libs: -L${{libdir}} -lvupresal
+Libs.private: -lc
 Cflags: -I${{includedir}}
 """
 
@@ -89,6 +90,8 @@ def library(stage, built, version):
     (lib / "libvupresal.so.0").symlink_to(real.name)
     (lib / "libvupresal.so").symlink_to(real.name)
     put(lib / "pkgconfig/vupresal.pc", PKG_CONFIG.format(triplet=TRIPLET, version=version))
+    for page in (built / "share/man/man3").glob("*.3"):
+        copied(page, stage / "usr/share/man/man3" / page.name)
 
 
 def make(stage, program, built, version):

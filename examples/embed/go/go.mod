@@ -1,3 +1,3 @@
-module vupresal.example/vupresal
+module vupresal.example/vupresal.git/examples/embed/go
 
 go 1.19

@@ -64,12 +64,13 @@ func FactsOf(r *http.Request) *Facts {
 		facts.Destination, _ = netip.ParseAddrPort(local.String())
 	}
 	if r.TLS != nil {
-		facts.addTLS(r.TLS)
+		facts.AddTLS(r.TLS)
 	}
 	return facts
 }
 
-func (f *Facts) addTLS(state *tls.ConnectionState) {
+// AddTLS sets the facts that a connection has by TLS, and the scheme https.
+func (f *Facts) AddTLS(state *tls.ConnectionState) {
 	versions := map[uint16]string{tls.VersionTLS10: "TLSv1", tls.VersionTLS11: "TLSv1.1", tls.VersionTLS12: "TLSv1.2", tls.VersionTLS13: "TLSv1.3"}
 	f.Scheme, f.RequestedServerName, f.TLSVersion = "https", strings.ToLower(state.ServerName), versions[state.Version]
 	isMutual := len(state.VerifiedChains) > 0

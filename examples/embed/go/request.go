@@ -1,13 +1,9 @@
 package vupresal
 
-// #include <stdlib.h>
-// #include <vupresal.h>
+// #include "decide.h"
 import "C"
 
-import (
-	"net/netip"
-	"unsafe"
-)
+import "net/netip"
 
 // A Line is a field of a request.
 type Line struct{ Name, Value string }
@@ -37,105 +33,88 @@ type Facts struct {
 	ConnectionID                                                                 *uint64
 }
 
-// packed is a request with its facts as C reads them. C keeps the texts and the lines, since C must not read pointers to Go's memory
-// out of memory that it is given.
-type packed struct {
-	request C.vupresal_request
-	facts   C.vupresal_facts
-	texts   []byte
-	used    int
-	blocks  []unsafe.Pointer
+// A worker has a handle, and the memory by which one decision at a time passes its request to C: texts one after another, and the length of
+// each, in the order of decide.h.
+type worker struct {
+	handle   C.vupresal_filter
+	texts    []byte
+	lengths  []C.size_t
+	numbers  C.vupresal_go_numbers
+	decision C.vupresal_decision
 }
 
-func pack(request *Request, facts *Facts) *packed {
-	p := &packed{}
-	sizes := len(request.Method) + len(request.Target)
-	for _, line := range request.Lines {
-		sizes += len(line.Name) + len(line.Value)
+// end marks the end of a text that begins after the last one.
+func (w *worker) end(before int) { w.lengths = append(w.lengths, C.size_t(len(w.texts)-before)) }
+
+func (w *worker) text(text string) {
+	w.texts = append(w.texts, text...)
+	w.lengths = append(w.lengths, C.size_t(len(text)))
+}
+
+// pack writes the request and the facts, in place of those before.
+func (w *worker) pack(request *Request, facts *Facts) {
+	w.texts, w.lengths = w.texts[:0], w.lengths[:0]
+	w.text(request.Method)
+	w.text(request.Target)
+	w.packFacts(facts)
+	for i := range request.Lines {
+		w.text(request.Lines[i].Name)
+		w.text(request.Lines[i].Value)
 	}
-	texts := facts.texts()
-	for _, text := range texts {
-		sizes += len(text)
+	if len(w.texts) == 0 {
+		// so that there is a first byte
+		w.texts = append(w.texts, 0)
 	}
-	// the facts' three addresses have at most 16 bytes each
-	p.texts = unsafe.Slice((*byte)(p.block(sizes+3*16)), sizes+3*16)
-	p.packRequest(request)
-	p.packFacts(facts, texts)
-	return p
-}
-
-func (p *packed) free() {
-	for _, block := range p.blocks {
-		C.free(block)
-	}
-}
-
-// block allocates in C's memory, of which malloc gives some or ends the program.
-func (p *packed) block(size int) unsafe.Pointer {
-	block := C.malloc(C.size_t(size))
-	p.blocks = append(p.blocks, block)
-	return block
-}
-
-func (p *packed) bytes(text string) C.vupresal_bytes {
-	if text == "" {
-		return C.vupresal_bytes{}
-	}
-	room := p.texts[p.used : p.used+len(text)]
-	p.used += copy(room, text)
-	return C.vupresal_bytes{at: (*C.uint8_t)(unsafe.Pointer(&room[0])), length: C.size_t(len(text))}
-}
-
-func (p *packed) packRequest(request *Request) {
-	p.request.method, p.request.target = p.bytes(request.Method), p.bytes(request.Target)
-	p.request.is_http11 = C.bool(!request.HTTP10)
+	w.numbers.is_http11, w.numbers.protocol = C.bool(!request.HTTP10), 0
 	if request.ProtoMajor != 1 {
-		p.request.protocol = C.uint64_t(request.ProtoMajor)
-	}
-	count := len(request.Lines)
-	if count == 0 {
-		return
-	}
-	p.request.lines = (*C.vupresal_line)(p.block(count * C.sizeof_vupresal_line))
-	p.request.line_count = C.size_t(count)
-	lines := unsafe.Slice(p.request.lines, count)
-	for i, line := range request.Lines {
-		lines[i] = C.vupresal_line{name: p.bytes(line.Name), value: p.bytes(line.Value)}
+		w.numbers.protocol = C.uint64_t(request.ProtoMajor)
 	}
 }
 
-// texts are the facts' texts, in the order of the header.
-func (f *Facts) texts() []string {
-	return []string{f.Scheme, endpoint(f.Source), endpoint(f.Destination), f.RequestedServerName, f.TLSVersion, f.SubjectPeerCertificate,
-		f.DNSSubjectAlternativeName, f.URISubjectAlternativeName}
-}
-
-func (p *packed) packFacts(facts *Facts, texts []string) {
-	to := &p.facts
-	to.scheme = p.bytes(texts[0])
-	for i, place := range []*C.vupresal_text{&to.source_address, &to.destination_address, &to.requested_server_name, &to.tls_version,
-		&to.subject_peer_certificate, &to.dns_san_peer_certificate, &to.uri_san_peer_certificate} {
-		place.bytes, place.is_there = p.bytes(texts[i+1]), C.bool(texts[i+1] != "")
+func (w *worker) packFacts(facts *Facts) {
+	w.text(facts.Scheme)
+	w.endpoint(facts.Source)
+	w.endpoint(facts.Destination)
+	for _, text := range [...]string{facts.RequestedServerName, facts.TLSVersion, facts.SubjectPeerCertificate, facts.DNSSubjectAlternativeName,
+		facts.URISubjectAlternativeName} {
+		w.text(text)
 	}
-	to.direct_remote_ip, to.remote_ip = p.address(facts.DirectRemoteIP), p.address(facts.RemoteIP)
-	to.destination_ip = p.address(facts.Destination.Addr())
-	to.source_port, to.destination_port, to.mtls = port(facts.Source), port(facts.Destination), -1
+	w.address(facts.DirectRemoteIP)
+	w.address(facts.RemoteIP)
+	w.address(facts.Destination.Addr())
+	numbers := C.vupresal_go_numbers{source_port: port(facts.Source), destination_port: port(facts.Destination), mtls: -1}
 	if facts.MutualTLS != nil {
-		to.mtls = 0
+		numbers.mtls = 0
 		if *facts.MutualTLS {
-			to.mtls = 1
+			numbers.mtls = 1
 		}
 	}
 	if facts.ConnectionID != nil {
-		to.connection_id, to.has_connection_id = C.uint64_t(*facts.ConnectionID), true
+		numbers.connection_id, numbers.has_connection_id = C.uint64_t(*facts.ConnectionID), true
 	}
+	w.numbers = numbers
 }
 
-func endpoint(at netip.AddrPort) string {
-	if !at.IsValid() {
-		return ""
+// endpoint writes an address with its port; nothing if there is none.
+func (w *worker) endpoint(at netip.AddrPort) {
+	before := len(w.texts)
+	if at.IsValid() {
+		w.texts = netip.AddrPortFrom(at.Addr().Unmap().WithZone(""), at.Port()).AppendTo(w.texts)
 	}
-	return netip.AddrPortFrom(at.Addr().Unmap().WithZone(""), at.Port()).String()
+	w.end(before)
+}
+
+// address writes the bytes of an address; none if there is none.
+func (w *worker) address(address netip.Addr) {
+	before := len(w.texts)
+	if address = address.Unmap(); address.Is4() {
+		bytes := address.As4()
+		w.texts = append(w.texts, bytes[:]...)
+	} else if address.Is6() {
+		bytes := address.As16()
+		w.texts = append(w.texts, bytes[:]...)
+	}
+	w.end(before)
 }
 
 func port(at netip.AddrPort) C.int32_t {
@@ -145,9 +124,8 @@ func port(at netip.AddrPort) C.int32_t {
 	return C.int32_t(at.Port())
 }
 
-func (p *packed) address(address netip.Addr) C.vupresal_bytes {
-	if !address.IsValid() {
-		return C.vupresal_bytes{}
-	}
-	return p.bytes(string(address.Unmap().AsSlice()))
+// decide asks the filter by one call of C.
+func (w *worker) decide(request *Request, facts *Facts) C.int32_t {
+	w.pack(request, facts)
+	return C.vupresal_go_decide(&w.handle, (*C.uint8_t)(&w.texts[0]), &w.lengths[0], C.size_t(len(request.Lines)), &w.numbers, &w.decision)
 }

@@ -1,11 +1,11 @@
 // Package vupresal decides on requests by Envoy's RBAC filters, with the library of include/vupresal.h.
 //
-// A Filter may be asked by any goroutine. Inside, it has a handle for each decision at a time; the handles share one filter.
+// A Filter may be asked by any goroutine. Inside, it has a handle for each decision at a time; the handles share one filter. A decision is
+// one call of C, and takes no memory of Go's heap once its first requests were like it.
 package vupresal
 
 // #cgo pkg-config: vupresal
-// #include <stdlib.h>
-// #include <vupresal.h>
+// #include "decide.h"
 import "C"
 
 import (
@@ -70,7 +70,16 @@ type Options struct {
 	Budget uint64
 	// Workers is the number of decisions at a time: as many as GOMAXPROCS by default.
 	Workers int
+	// Bounds are the limits of requests. All six 0 are the greatest.
+	Bounds Bounds
+	// Visits bounds the measuring of the filter's conditions: 4,194,304 by default.
+	Visits uint64
 }
+
+// Bounds are the limits of the requests that a filter is asked for: 1 to 64 field lines with 3 for the method, the path and the scheme, 1
+// to 128 bytes of a name, 4096 of a value, 32 of a method, 4096 of a target, and 1024 of any other text. A request outside the limits has
+// the error OutsideLimits.
+type Bounds struct{ Fields, Name, Value, Method, Target, Text uint }
 
 // A Version tells what library this is.
 type Version struct {
@@ -86,12 +95,14 @@ func LibraryVersion() Version {
 	return Version{Number: uint64(build.number), Proved: bool(build.is_proved)}
 }
 
-// A Filter is an admitted filter.
+// A Filter is an admitted filter. One that is no longer used is closed by the garbage collector; Close does it at once.
 type Filter struct {
-	// the handles that no call has
-	handles chan *C.vupresal_filter
+	// the workers that no call has
+	workers chan *worker
 	closed  chan struct{}
 	once    sync.Once
+	// the policies' names, in ascending order
+	names []string
 }
 
 // Admit admits the message of an HTTP RBAC filter. The error is a *Refusal if the message is at fault.
@@ -105,19 +116,24 @@ func Admit(message []byte, options Options) (*Filter, error) {
 	if options.Workers <= 0 {
 		options.Workers = runtime.GOMAXPROCS(0)
 	}
-	filter := &Filter{handles: make(chan *C.vupresal_filter, options.Workers), closed: make(chan struct{})}
-	handles := make([]C.vupresal_filter, options.Workers)
-	for i := range handles {
-		filter.handles <- &handles[i]
+	filter := &Filter{workers: make(chan *worker, options.Workers), closed: make(chan struct{})}
+	workers := make([]worker, options.Workers)
+	for i := range workers {
+		filter.workers <- &workers[i]
 	}
-	if err := admit(&handles[0], message, options.Budget); err != nil {
+	first := &workers[0].handle
+	if err := admit(first, message, &options); err != nil {
 		return nil, err
 	}
-	for i := range handles[1:] {
-		if status := C.vupresal_filter_share(&handles[0], &handles[i+1]); status != C.VUPRESAL_OK {
+	runtime.SetFinalizer(filter, (*Filter).Close)
+	for i := range workers[1:] {
+		if status := C.vupresal_filter_share(first, &workers[i+1].handle); status != C.VUPRESAL_OK {
 			filter.Close()
 			return nil, Status(status)
 		}
+	}
+	for number := C.size_t(0); number < C.vupresal_filter_policies(first); number++ {
+		filter.names = append(filter.names, policyName(first, C.uint64_t(number)))
 	}
 	return filter, nil
 }
@@ -125,9 +141,10 @@ func Admit(message []byte, options Options) (*Filter, error) {
 // Close waits for the decisions that were begun, and frees the filter. Decisions after it have the error ErrClosed.
 func (f *Filter) Close() {
 	f.once.Do(func() {
+		runtime.SetFinalizer(f, nil)
 		close(f.closed)
-		for i := 0; i < cap(f.handles); i++ {
-			C.vupresal_filter_free(<-f.handles)
+		for i := 0; i < cap(f.workers); i++ {
+			C.vupresal_filter_free(&(<-f.workers).handle)
 		}
 	})
 }
@@ -135,35 +152,35 @@ func (f *Filter) Close() {
 // Decide gives the decision on a request. Without an error the decision counts; with one it refuses.
 func (f *Filter) Decide(request *Request, facts *Facts) (Decision, error) {
 	select {
-	case handle := <-f.handles:
-		defer func() { f.handles <- handle }()
-		return decide(handle, request, facts)
+	case worker := <-f.workers:
+		// a worker that is given back keeps the filter from being closed until then
+		defer func() { f.workers <- worker }()
+		return f.decide(worker, request, facts)
 	case <-f.closed:
 		return Decision{}, ErrClosed
 	}
 }
 
-func admit(handle *C.vupresal_filter, message []byte, budget uint64) error {
-	var bounds C.vupresal_bounds
+func admit(handle *C.vupresal_filter, message []byte, options *Options) error {
+	bounds := C.vupresal_bounds{fields: C.size_t(options.Bounds.Fields), name: C.size_t(options.Bounds.Name), value: C.size_t(options.Bounds.Value),
+		method: C.size_t(options.Bounds.Method), target: C.size_t(options.Bounds.Target), text: C.size_t(options.Bounds.Text),
+		visits: C.uint64_t(options.Visits)}
 	place := make([]byte, 512)
-	status := C.vupresal_filter_admit(handle, first(message), C.size_t(len(message)), &bounds, C.uint64_t(budget), first(place), C.size_t(len(place)))
+	status := C.vupresal_filter_admit(handle, first(message), C.size_t(len(message)), &bounds, C.uint64_t(options.Budget), first(place), C.size_t(len(place)))
 	if status == C.VUPRESAL_OK {
 		return nil
 	}
 	return &Refusal{Status(status), C.GoString((*C.char)(unsafe.Pointer(&place[0])))}
 }
 
-func decide(handle *C.vupresal_filter, request *Request, facts *Facts) (Decision, error) {
-	packed := pack(request, facts)
-	defer packed.free()
-	var decision C.vupresal_decision
-	status := C.vupresal_filter_decide(handle, &packed.request, &packed.facts, &decision)
-	if status != C.VUPRESAL_OK {
+func (f *Filter) decide(worker *worker, request *Request, facts *Facts) (Decision, error) {
+	if status := worker.decide(request, facts); status != C.VUPRESAL_OK {
 		return Decision{}, Status(status)
 	}
+	decision := &worker.decision
 	found := Decision{Allowed: bool(decision.is_allowed), Matched: bool(decision.is_matched)}
 	if found.Matched {
-		found.Policy = policyName(handle, decision.matched)
+		found.Policy = f.names[decision.matched]
 	}
 	return found, nil
 }

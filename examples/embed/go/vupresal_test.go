@@ -8,9 +8,11 @@ import (
 	"net/netip"
 	"os"
 	"path/filepath"
+	"runtime"
 	"strings"
 	"sync"
 	"testing"
+	"time"
 )
 
 // filterOf admits a filter of the folder examples.
@@ -110,6 +112,84 @@ func TestRefusals(t *testing.T) {
 	if _, err := Admit(example(t, "any_any.bin"), Options{Budget: MostBudget + 1}); !errors.Is(err, OutOfRange) {
 		t.Errorf("a large budget: %v", err)
 	}
+}
+
+func TestBounds(t *testing.T) {
+	smaller := Bounds{Fields: 10, Name: 64, Value: 100, Method: 32, Target: 20, Text: 100}
+	filter := filterOf(t, "any_any.bin", Options{Bounds: smaller, Workers: 1})
+	if got, err := filter.Decide(get("/"+strings.Repeat("a", 19)), &Facts{}); err != nil || !got.Allowed {
+		t.Errorf("inside: %v, %v", got, err)
+	}
+	for _, request := range []*Request{get("/" + strings.Repeat("a", 20)), get("/", Line{"x", strings.Repeat("v", 101)})} {
+		if got, err := filter.Decide(request, &Facts{}); got.Allowed || !errors.Is(err, OutsideLimits) {
+			t.Errorf("outside: %v, %v", got, err)
+		}
+	}
+	for _, options := range []Options{{Bounds: Bounds{Fields: 1}}, {Visits: 1 << 63}, {Bounds: Bounds{65, 1, 1, 1, 1, 1}}} {
+		if _, err := Admit(example(t, "any_any.bin"), options); !errors.Is(err, OutOfRange) {
+			t.Errorf("%v: %v", options, err)
+		}
+	}
+}
+
+// TestManyLines has more lines than fit the stack of decide.h; the requests after them have no more of theirs.
+func TestManyLines(t *testing.T) {
+	filter := filterOf(t, "any_any.bin", Options{Workers: 1})
+	for _, count := range []int{0, 61, 62, 63, 64, 65, 1000, 0} {
+		lines := make([]Line, count)
+		for i := range lines {
+			lines[i] = Line{"x", "v"}
+		}
+		_, err := filter.Decide(get("/", lines...), &Facts{Scheme: "http"})
+		if (count > 60) != errors.Is(err, OutsideLimits) {
+			t.Errorf("%d lines: %v", count, err)
+		}
+	}
+}
+
+// TestFacts has facts of each form.
+func TestFacts(t *testing.T) {
+	filter := filterOf(t, "any_any.bin", Options{Workers: 1})
+	mutual, id := false, uint64(1)<<63
+	for _, facts := range []Facts{{}, {Source: netip.MustParseAddrPort("[fe80::1%eth0]:1"), Destination: netip.MustParseAddrPort("10.0.0.1:65535")},
+		{DirectRemoteIP: netip.MustParseAddr("::ffff:10.0.0.1"), RemoteIP: netip.MustParseAddr("::1"), MutualTLS: &mutual, ConnectionID: &id}} {
+		facts := facts
+		if got, err := filter.Decide(get("/"), &facts); err != nil || !got.Allowed {
+			t.Errorf("%v: %v, %v", facts, got, err)
+		}
+	}
+}
+
+// TestAllocations decides without memory of Go's heap.
+func TestAllocations(t *testing.T) {
+	filter, request := filterOf(t, "condition.bin", Options{Workers: 1}), get("/about")
+	facts := &Facts{Scheme: "http", Source: netip.MustParseAddrPort("10.0.0.1:80"), RemoteIP: netip.MustParseAddr("10.0.0.1")}
+	if found := testing.AllocsPerRun(100, func() {
+		if _, err := filter.Decide(request, facts); err != nil {
+			t.Fatal(err)
+		}
+	}); found != 0 {
+		t.Errorf("%v allocations", found)
+	}
+}
+
+// TestFinalizer lets the garbage collector close a filter that nobody has.
+func TestFinalizer(t *testing.T) {
+	filter, err := Admit(example(t, "any_any.bin"), Options{Workers: 2})
+	if err != nil {
+		t.Fatal(err)
+	}
+	closed := filter.closed
+	filter = nil
+	for i := 0; i < 100; i++ {
+		runtime.GC()
+		select {
+		case <-closed:
+			return
+		case <-time.After(50 * time.Millisecond):
+		}
+	}
+	t.Error("the filter was not closed")
 }
 
 func TestClosed(t *testing.T) {
@@ -224,6 +304,7 @@ func TestHandlerByProtocol(t *testing.T) {
 func BenchmarkDecide(b *testing.B) {
 	filter := filterOf(b, "condition.bin", Options{Workers: 1})
 	request, facts := get("/"), &Facts{Scheme: "http"}
+	b.ReportAllocs()
 	for i := 0; i < b.N; i++ {
 		if _, err := filter.Decide(request, facts); err != nil {
 			b.Fatal(err)

@@ -1,9 +1,14 @@
 /*
  * Decides on each request of a location by an RBAC filter, in the worker.
  *
- *   vupresal_filter FILE [budget=N] | off;   http, server, location. FILE has the message of an HTTP RBAC filter; a name without a
- *                                            slash at its beginning is below nginx's folder of configuration. The conditions may
- *                                            take N steps together for one request, 1,000,000 if it is not given.
+ *   vupresal_filter FILE [NAME=N].. | off;   http, server, location. FILE has the message of an HTTP RBAC filter; a name without a
+ *                                            slash at its beginning is below nginx's folder of configuration. NAME is one of
+ *                                              budget  the steps that the conditions may take together for one request, 1,000,000 if
+ *                                                      it is not given
+ *                                              visits  the visits that measuring the conditions may take
+ *                                              fields, name, value, method, target, text
+ *                                                      the limits of requests, as vupresal_bounds has them. One that is not given is
+ *                                                      the greatest: 64, 128, 4096, 32, 4096, 1024
  *   vupresal_target sent | normalised;       http, server, location. What is judged as the target: as the client sent it, or decoded,
  *                                            with dot segments resolved and slashes merged, as nginx compares it with locations, and
  *                                            encoded again. The query is as it was sent.
@@ -25,10 +30,11 @@
 /* a status of HTTP for which nginx has no name */
 #define NGX_HTTP_VUPRESAL_OUTSIDE_LIMITS 431
 
-/* A filter, which all locations with its file and budget share. */
+/* A filter, which all locations with its file and numbers share. */
 typedef struct {
     ngx_str_t        file;
-    ngx_int_t        budget;
+    uint64_t         budget;
+    vupresal_bounds  bounds;
     vupresal_filter  filter;
 } ngx_http_vupresal_filter_t;
 
@@ -63,7 +69,7 @@ static ngx_conf_enum_t ngx_http_vupresal_targets[] = {
 
 static ngx_command_t ngx_http_vupresal_commands[] = {
     { ngx_string("vupresal_filter"),
-      NGX_HTTP_MAIN_CONF|NGX_HTTP_SRV_CONF|NGX_HTTP_LOC_CONF|NGX_CONF_TAKE12,
+      NGX_HTTP_MAIN_CONF|NGX_HTTP_SRV_CONF|NGX_HTTP_LOC_CONF|NGX_CONF_1MORE,
       ngx_http_vupresal_set_filter,
       NGX_HTTP_LOC_CONF_OFFSET,
       0,
@@ -419,14 +425,13 @@ ngx_http_vupresal_free(void *data)
 }
 
 
-/* Admits the filter in a file, which is freed with the configuration. */
+/* Admits the filter in a file with these numbers. It is freed with the configuration. */
 static ngx_http_vupresal_filter_t *
-ngx_http_vupresal_admit(ngx_conf_t *cf, ngx_str_t *name, ngx_int_t budget)
+ngx_http_vupresal_admit(ngx_conf_t *cf, ngx_str_t *name, uint64_t budget, vupresal_bounds *bounds)
 {
     u_char                       place[512];
     int32_t                      status;
     ngx_str_t                    message = ngx_null_string;
-    vupresal_bounds              greatest;
     ngx_pool_cleanup_t          *cleanup;
     ngx_http_vupresal_filter_t  *filter;
 
@@ -439,6 +444,7 @@ ngx_http_vupresal_admit(ngx_conf_t *cf, ngx_str_t *name, ngx_int_t budget)
 
     filter->file = *name;
     filter->budget = budget;
+    filter->bounds = *bounds;
     cleanup->handler = ngx_http_vupresal_free;
     cleanup->data = &filter->filter;
 
@@ -447,9 +453,8 @@ ngx_http_vupresal_admit(ngx_conf_t *cf, ngx_str_t *name, ngx_int_t budget)
         return NULL;
     }
 
-    ngx_memzero(&greatest, sizeof(vupresal_bounds));
     ngx_memzero(place, sizeof(place));
-    status = vupresal_filter_admit(&filter->filter, message.data, message.len, &greatest, budget, place, sizeof(place));
+    status = vupresal_filter_admit(&filter->filter, message.data, message.len, bounds, budget, place, sizeof(place));
     ngx_free(message.data);
 
     if (status != VUPRESAL_OK) {
@@ -461,16 +466,83 @@ ngx_http_vupresal_admit(ngx_conf_t *cf, ngx_str_t *name, ngx_int_t budget)
 }
 
 
+/* The number that a word NAME=N sets; NULL if there is none of this name. */
+static uint64_t *
+ngx_http_vupresal_number_of(ngx_str_t *name, uint64_t *budget, vupresal_bounds *bounds)
+{
+    ngx_uint_t  i;
+
+    struct {
+        ngx_str_t   name;
+        uint64_t   *number;
+    } known[] = {
+        { ngx_string("budget"), budget },
+        { ngx_string("visits"), &bounds->visits },
+        { ngx_string("fields"), &bounds->fields },
+        { ngx_string("name"), &bounds->name },
+        { ngx_string("value"), &bounds->value },
+        { ngx_string("method"), &bounds->method },
+        { ngx_string("target"), &bounds->target },
+        { ngx_string("text"), &bounds->text }
+    };
+
+    for (i = 0; i < sizeof(known) / sizeof(known[0]); i++) {
+        if (name->len == known[i].name.len && ngx_memcmp(name->data, known[i].name.data, name->len) == 0) {
+            return known[i].number;
+        }
+    }
+
+    return NULL;
+}
+
+
+/* Reads the words after the file. */
+static char *
+ngx_http_vupresal_read_numbers(ngx_array_t *words, uint64_t *budget, vupresal_bounds *bounds)
+{
+    u_char      *equals;
+    uint64_t    *number;
+    ngx_int_t    read;
+    ngx_str_t   *value = words->elts, name;
+    ngx_uint_t   i;
+
+    for (i = 2; i < words->nelts; i++) {
+        equals = (u_char *) ngx_strchr(value[i].data, '=');
+        if (equals == NULL) {
+            return "has a word that is not NAME=N";
+        }
+
+        name.data = value[i].data;
+        name.len = equals - name.data;
+        number = ngx_http_vupresal_number_of(&name, budget, bounds);
+        if (number == NULL) {
+            return "has another name than budget, visits, fields, name, value, method, target and text";
+        }
+
+        read = ngx_atoi(equals + 1, value[i].len - name.len - 1);
+        if (read < 1) {
+            return "has a number that is not 1 or more";
+        }
+
+        *number = read;
+    }
+
+    return NGX_CONF_OK;
+}
+
+
 static char *
 ngx_http_vupresal_set_filter(ngx_conf_t *cf, ngx_command_t *cmd, void *data)
 {
     ngx_http_vupresal_loc_conf_t   *conf = data;
     ngx_http_vupresal_main_conf_t  *main;
 
+    char                         *wrong;
     ngx_str_t                    *value = cf->args->elts;
     ngx_str_t                     name = value[1];
-    ngx_int_t                     budget = NGX_HTTP_VUPRESAL_BUDGET;
+    uint64_t                      budget = NGX_HTTP_VUPRESAL_BUDGET;
     ngx_uint_t                    i;
+    vupresal_bounds               bounds = { 64, 128, 4096, 32, 4096, 1024, 0 };
     ngx_http_vupresal_filter_t  **known;
 
     if (conf->filter != NGX_CONF_UNSET_PTR) {
@@ -482,15 +554,9 @@ ngx_http_vupresal_set_filter(ngx_conf_t *cf, ngx_command_t *cmd, void *data)
         return NGX_CONF_OK;
     }
 
-    if (cf->args->nelts == 3) {
-        if (ngx_strncmp(value[2].data, "budget=", 7) != 0) {
-            return "has a second word that is not budget=N";
-        }
-
-        budget = ngx_atoi(value[2].data + 7, value[2].len - 7);
-        if (budget < 1 || budget > VUPRESAL_MOST_BUDGET) {
-            return "has a budget that is not 1 to 100000000";
-        }
+    wrong = ngx_http_vupresal_read_numbers(cf->args, &budget, &bounds);
+    if (wrong != NGX_CONF_OK) {
+        return wrong;
     }
 
     if (ngx_conf_full_name(cf->cycle, &name, 1) != NGX_OK) {
@@ -502,14 +568,15 @@ ngx_http_vupresal_set_filter(ngx_conf_t *cf, ngx_command_t *cmd, void *data)
 
     for (i = 0; i < main->filters.nelts; i++) {
         if (known[i]->budget == budget && known[i]->file.len == name.len
-            && ngx_memcmp(known[i]->file.data, name.data, name.len) == 0)
+            && ngx_memcmp(known[i]->file.data, name.data, name.len) == 0
+            && ngx_memcmp(&known[i]->bounds, &bounds, sizeof(vupresal_bounds)) == 0)
         {
             conf->filter = known[i];
             return NGX_CONF_OK;
         }
     }
 
-    conf->filter = ngx_http_vupresal_admit(cf, &name, budget);
+    conf->filter = ngx_http_vupresal_admit(cf, &name, budget, &bounds);
     if (conf->filter == NULL) {
         return NGX_CONF_ERROR;
     }

@@ -1,13 +1,15 @@
 """Tests of the package, with the filters of the folder examples."""
 
 import concurrent.futures
+import os
 import pathlib
+import pickle
 import threading
 import unittest
 
-from vupresal import Decision, EachThread, Error, Facts, Filter, Refused, is_proved
+from vupresal import Bounds, Decision, EachThread, Error, Facts, Filter, Refused, is_proved
 
-EXAMPLES = pathlib.Path(__file__).resolve().parent.parent.parent
+EXAMPLES = pathlib.Path(os.environ.get("VUPRESAL_EXAMPLES") or pathlib.Path(__file__).resolve().parent.parent.parent)
 HOST = [("Host", "h")]
 
 
@@ -54,6 +56,57 @@ class Filters(unittest.TestCase):
             for row in rows:
                 with self.subTest(row=row), self.assertRaises(ValueError):
                     one.decide("GET", "/", HOST, Facts(**row))
+
+    def test_numbers_that_c_cannot_hold(self) -> None:
+        """ctypes would cut each to one that is accepted."""
+        message = example("any_any.bin")
+        for number in (2**64 + 1_000_000, -1, 2**64):
+            with self.subTest(number=number):
+                with self.assertRaises(ValueError):
+                    Filter(message, budget=number)
+                for name in ("fields", "name", "value", "method", "target", "text", "visits"):
+                    with self.assertRaises(ValueError):
+                        Filter(message, bounds=Bounds(**{name: number}))
+        for wrong in (1.5, True, "1", None):
+            with self.subTest(wrong=wrong), self.assertRaises(TypeError):
+                Filter(message, budget=wrong)  # type: ignore[arg-type]
+        with self.assertRaises(TypeError), Filter(message) as one:
+            one.decide("GET", "/", HOST, Facts(source_port=80.0))  # type: ignore[arg-type]
+
+    def test_bounds(self) -> None:
+        smaller = Bounds(fields=10, name=64, value=100, method=32, target=20, text=100)
+        with Filter(example("any_any.bin"), bounds=smaller) as one:
+            self.assertTrue(one.decide("GET", "/" + "a" * 19, HOST + [("x", "v" * 100)]).allowed)
+            for target, lines in (("/" + "a" * 20, HOST), ("/", HOST + [("x", "v" * 101)]), ("/", HOST + [("x" * 65, "v")]), ("/", HOST + [("x", "v")] * 10)):
+                with self.subTest(target=target, lines=lines), self.assertRaises(Error) as raised:
+                    one.decide("GET", target, lines)
+                self.assertEqual(raised.exception.status, 431)
+        with Filter(example("condition.bin")) as whole, Filter(example("condition.bin"), bounds=smaller) as less:
+            self.assertLess(less.bound, whole.bound)
+        for outside in (Bounds(fields=65, name=1, value=1, method=1, target=1, text=1), Bounds(fields=1), Bounds(visits=2**63)):
+            with self.subTest(outside=outside), self.assertRaises(Refused) as raised:
+                Filter(example("any_any.bin"), bounds=outside)
+            self.assertEqual(raised.exception.status, -2)
+
+    def test_parts_of_each_kind(self) -> None:
+        """The filter allows `/about` with any fields: texts, bytes, more than fit the first room, and none at all."""
+        with Filter(example("condition.bin")) as one:
+            for lines in (HOST, [(b"host", b"h")], [("host", b"h"), (b"x", "\u00e9")], HOST + [("x", "\u00e9" * 2000)], HOST + [("x%d" % n, "v" * 90) for n in range(59)],
+                          (pair for pair in HOST), [["host", "h"]]):
+                self.assertEqual(one.decide("GET", "/about", lines), Decision(True, "readers"))
+            for lines in ([("host", "h", "more")], [("host", "h"), ("x", "y", "z")], [("host", "h", "x"), ("y",)], [("host",)], ["host"], [("host", 1)], [(None, "h")], [("host", [1])]):
+                with self.subTest(lines=lines), self.assertRaises((TypeError, ValueError)):
+                    one.decide("GET", "/about", lines)  # type: ignore[arg-type]
+            self.assertEqual(one.decide(b"GET", b"/about", HOST), Decision(True, "readers"))
+            self.assertFalse(one.decide("GET", "/admin", HOST).allowed)
+
+    def test_facts_are_kept_and_copied(self) -> None:
+        facts = Facts(remote_ip="10.0.0.1", source_port=1)
+        with Filter(example("any_any.bin")) as one:
+            self.assertTrue(one.decide("GET", "/", HOST, facts).allowed)
+            copy = pickle.loads(pickle.dumps(facts))
+            self.assertEqual(copy, facts)
+            self.assertTrue(one.decide("GET", "/", HOST, copy).allowed)
 
     def test_facts_in_one_form(self) -> None:
         """Denied are the server name `a`, and destinations in 10.0.0.0/8."""

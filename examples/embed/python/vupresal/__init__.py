@@ -13,17 +13,20 @@ to each thread, so that none waits.
 from __future__ import annotations
 
 import ctypes
+import functools
 import ipaddress
+import struct
 import threading
-from dataclasses import dataclass
-from typing import Iterable, NamedTuple, Optional, Tuple, Union
+from dataclasses import dataclass, fields
+from typing import Dict, Iterable, NamedTuple, Optional, Tuple, Union
 
 from . import _library
 
-__all__ = ["Decision", "EachThread", "Error", "Facts", "Filter", "Refused", "is_proved"]
+__all__ = ["Bounds", "Decision", "EachThread", "Error", "Facts", "Filter", "Refused", "is_proved"]
 
 Address = Union[str, ipaddress.IPv4Address, ipaddress.IPv6Address]
-Lines = Iterable[Tuple[Union[str, bytes], Union[str, bytes]]]
+Text = Union[str, bytes]
+Lines = Iterable[Tuple[Text, Text]]
 
 _LIBRARY = _library.load()
 _MEANINGS = {
@@ -90,7 +93,9 @@ class Facts:
     mtls: Optional[bool] = None
     connection_id: Optional[int] = None
 
+    @functools.cached_property
     def _input(self) -> _library.FactsInput:
+        """The facts as C has them, made once."""
         facts = _library.FactsInput()
         facts.scheme = _bytes_of(self.scheme)
         for name in ("source_address", "destination_address", "requested_server_name", "tls_version", "subject_peer_certificate",
@@ -106,6 +111,32 @@ class Facts:
             facts.connection_id, facts.has_connection_id = _in_range(self.connection_id, 2**64, "a connection's number"), True
         return facts
 
+    @functools.cached_property
+    def _address(self) -> int:
+        return ctypes.addressof(self._input)
+
+    def __getstate__(self) -> Dict[str, object]:
+        """What is pickled: without what was made for C."""
+        return {name: value for name, value in self.__dict__.items() if not name.startswith("_")}
+
+
+@dataclass(frozen=True)
+class Bounds:
+    """The limits of the requests that a filter is asked for. All six 0 are the greatest: 64 fields, 128 bytes of a name, 4096 of a value, 32
+    of a method, 4096 of a target, 1024 of another text. Otherwise each is from 1 to that. `visits` bounds the measuring of conditions; 0
+    is 4194304."""
+
+    fields: int = 0
+    name: int = 0
+    value: int = 0
+    method: int = 0
+    target: int = 0
+    text: int = 0
+    visits: int = 0
+
+    def _input(self) -> _library.Bounds:
+        return _library.Bounds(*(_in_range(getattr(self, it.name), 2**64, f"the limit `{it.name}`") for it in fields(self)))
+
 
 _PROTOCOLS = {"HTTP/1.0": (False, 0), "HTTP/1.1": (True, 0), "HTTP/2": (True, 2), "HTTP/3": (True, 3)}
 
@@ -119,6 +150,8 @@ def _protocol_of(protocol: str) -> Tuple[bool, int]:
 
 def _in_range(number: int, end: int, what: str) -> int:
     """The number; ctypes would cut one of more bits, and another would match."""
+    if isinstance(number, bool) or not isinstance(number, int):
+        raise TypeError(f"{what} is an int, not {type(number).__name__}")
     if not 0 <= number < end:
         raise ValueError(f"{what} is from 0 to {end - 1}, not {number}")
     return number
@@ -134,51 +167,71 @@ def _bytes_of(text: Union[str, bytes]) -> _library.Bytes:
     return _library.Bytes(raw, len(raw))
 
 
+_NO_FACTS = Facts()
+# a vupresal_decision
+_ANSWER = struct.Struct("Q??").unpack_from
+_DECIDE, _DECIDE_HEAD = _LIBRARY.vupresal_filter_decide, _LIBRARY.vupresal_filter_decide_head
+
+
 class Filter:
     """An admitted filter."""
 
-    def __init__(self, message: bytes, budget: int = 1_000_000) -> None:
+    def __init__(self, message: bytes, budget: int = 1_000_000, bounds: Bounds = Bounds()) -> None:
         """Admits the message of an HTTP RBAC filter; raises Refused if it is at fault. The budget is the most steps that its
-        conditions may take for one request, 1 to 100,000,000."""
-        self._lock, self._handle = threading.Lock(), _library.Handle()
+        conditions may take for one request, 1 to 100,000,000. A number that C cannot hold raises ValueError."""
+        self._open()
         place = ctypes.create_string_buffer(512)
-        status = _LIBRARY.vupresal_filter_admit(ctypes.byref(self._handle), message, len(message), ctypes.byref(_library.Bounds()), budget, place,
-                                                len(place))
+        status = _LIBRARY.vupresal_filter_admit(ctypes.byref(self._handle), message, len(message), ctypes.byref(bounds._input()),
+                                                _in_range(budget, 2**64, "a budget"), place, len(place))
         if status:
             raise Refused(status, place.value.decode())
+
+    def _open(self) -> None:
+        """An empty handle, and what each call needs."""
+        self._lock, self._handle, self._room, self._output = threading.Lock(), _library.Handle(), _library.Room(), _library.DecisionOutput()
+        # the decisions that were given so far, by what the library wrote: one for each policy, and one for none
+        self._known: Dict[Tuple[int, bool, bool], Decision] = {}
+        self._at, self._output_at = ctypes.addressof(self._handle), ctypes.addressof(self._output)
 
     def share(self) -> Filter:
         """Another Filter of the same message, which is not admitted again. Raises Error if this one is closed."""
         other = Filter.__new__(Filter)
-        other._lock, other._handle = threading.Lock(), _library.Handle()
+        other._open()
         with self._lock:
             status = _LIBRARY.vupresal_filter_share_distinct(ctypes.byref(self._handle), ctypes.byref(other._handle))
         if status:
             raise Error(status)
         return other
 
-    def decide(self, method: str, target: str, lines: Lines, facts: Facts = Facts(), is_http11: bool = True,
+    def decide(self, method: Text, target: Text, lines: Lines, facts: Facts = _NO_FACTS, is_http11: bool = True,
                protocol: Optional[str] = None) -> Decision:
         """The decision on a request by its parts. The host is a line `host` or `:authority`. The protocol is "HTTP/1.0", "HTTP/1.1",
-        "HTTP/2" or "HTTP/3"; without it `is_http11` says which of the first two. Raises Error without a decision."""
-        http11, number = (is_http11, 0) if protocol is None else _protocol_of(protocol)
-        pairs = [_library.Line(_bytes_of(name), _bytes_of(value)) for name, value in lines]
-        request = _library.RequestInput(_bytes_of(method), _bytes_of(target), (_library.Line * len(pairs))(*pairs), len(pairs), http11, number)
-        return self._decision(_LIBRARY.vupresal_filter_decide, ctypes.byref(request), facts=facts)
-
-    def decide_head(self, head: bytes, facts: Facts = Facts()) -> Decision:
-        """The decision on a request by its whole head of HTTP/1. Raises Error without a decision."""
-        return self._decision(_LIBRARY.vupresal_filter_decide_head, head, len(head), facts=facts)
-
-    def _decision(self, function, *request, facts: Facts) -> Decision:
-        handle, decision = ctypes.byref(self._handle), _library.DecisionOutput()
+        "HTTP/2" or "HTTP/3"; without it `is_http11` says which of the first two. Raises Error without a decision.
+        Facts are made ready for C once: keep those of a connection for its next requests."""
+        http11, number = (bool(is_http11), 0) if protocol is None else _protocol_of(protocol)
+        at = facts._address
         with self._lock:
-            status = function(handle, *request, ctypes.byref(facts._input()), ctypes.byref(decision))
-            if status:
-                raise Error(status)
-            return Decision(decision.is_allowed, self._name(decision.matched) if decision.is_matched else None)
+            status = _DECIDE(self._at, self._room.put(method, target, lines, http11, number), at, self._output_at)
+            return self._decision(status)
+
+    def decide_head(self, head: bytes, facts: Facts = _NO_FACTS) -> Decision:
+        """The decision on a request by its whole head of HTTP/1. Raises Error without a decision."""
+        at = facts._address
+        with self._lock:
+            return self._decision(_DECIDE_HEAD(self._at, head, len(head), at, self._output_at))
+
+    def _decision(self, status: int) -> Decision:
+        """What a call gave, which the lock still keeps."""
+        if status:
+            raise Error(status)
+        answer = _ANSWER(self._output)
+        if answer not in self._known:
+            matched, is_matched, is_allowed = answer
+            self._known[answer] = Decision(is_allowed, self._name(matched) if is_matched else None)
+        return self._known[answer]
 
     def _name(self, number: int) -> str:
+        """The name of a policy."""
         size = _LIBRARY.vupresal_filter_policy_name(ctypes.byref(self._handle), number, None, 0)
         room = ctypes.create_string_buffer(size + 1)
         _LIBRARY.vupresal_filter_policy_name(ctypes.byref(self._handle), number, room, size)
@@ -215,8 +268,8 @@ class Filter:
 class EachThread:
     """A filter that is admitted once, and shared with each thread when it first asks."""
 
-    def __init__(self, message: bytes, budget: int = 1_000_000) -> None:
-        self._first, self._own = Filter(message, budget), threading.local()
+    def __init__(self, message: bytes, budget: int = 1_000_000, bounds: Bounds = Bounds()) -> None:
+        self._first, self._own = Filter(message, budget, bounds), threading.local()
 
     @property
     def filter(self) -> Filter:

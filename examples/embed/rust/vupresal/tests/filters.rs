@@ -1,0 +1,147 @@
+//! The filters of the folder examples, whose path is in VUPRESAL_EXAMPLES.
+use std::net::{IpAddr, SocketAddr};
+use std::path::PathBuf;
+use std::thread;
+use vupresal::{Bounds, Decision, Error, Facts, Filter, Options, Protocol, Request};
+
+const HOST: [(&str, &str); 1] = [("Host", "h")];
+
+fn example(name: &str) -> Vec<u8> {
+    let folder =
+        std::env::var_os("VUPRESAL_EXAMPLES").map_or_else(|| PathBuf::from(env!("CARGO_MANIFEST_DIR")).join("../../.."), PathBuf::from);
+    std::fs::read(folder.join(name)).expect("the example is read")
+}
+
+fn filter_of(name: &str) -> Filter {
+    Filter::admit(&example(name), &Options::default()).expect("the filter is admitted")
+}
+
+fn said(filter: &mut Filter, target: &str) -> (bool, Option<String>) {
+    let found = filter.decide(&Request::get(target, &HOST), &Facts::default()).expect("a decision");
+    let head = format!("GET {} HTTP/1.1\r\nHost: h\r\n\r\n", target);
+    assert_eq!(filter.decide_head(head.as_bytes(), &Facts::default()), Ok(found));
+    (found.allowed, found.policy.and_then(|number| filter.policy_name(number)))
+}
+
+#[test]
+fn decisions() {
+    let readers = Some(String::from("readers"));
+    let first = Some(String::from("p"));
+    for (name, target, wanted) in [
+        ("condition.bin", "/", (true, readers.clone())),
+        ("condition.bin", "/about", (true, readers)),
+        ("condition.bin", "/admin", (false, None)),
+        ("any_any.bin", "/admin", (true, first.clone())),
+        ("deny_any.bin", "/", (false, first)),
+    ] {
+        assert_eq!(said(&mut filter_of(name), target), wanted, "{} of {}", target, name);
+    }
+}
+
+#[test]
+fn requests_without_a_decision() {
+    let mut filter = filter_of("any_any.bin");
+    let long = format!("/{}", "a".repeat(4096));
+    let many = [("x", "v"); 70];
+    let none: [(&str, &str); 0] = [];
+    for (method, target, lines, wanted) in [
+        ("", "/", &HOST[..], Error::BadRequest),
+        ("GET", "x", &HOST[..], Error::BadRequest),
+        ("GET", "/", &none[..], Error::BadRequest),
+        ("GET", "/", &[("host", "h"), ("host", "i")][..], Error::BadRequest),
+        ("GET", "/", &[("host", "h"), ("x", "a\nb")][..], Error::BadRequest),
+        ("GET", "/", &many[..], Error::OutsideLimits),
+        ("GET", &long, &HOST[..], Error::OutsideLimits),
+        ("GET", "/", &[("host", "h"), ("Transfer-Encoding", "chunked")][..], Error::TransferCoding),
+    ] {
+        let request = Request { method, target, lines, protocol: Protocol::Http11 };
+        assert_eq!(filter.decide(&request, &Facts::default()), Err(wanted), "{} {} {:?}", method, target, lines);
+    }
+    let bytes: [(&[u8], &[u8]); 2] = [(b"host", b"h"), (b"x", b"\xff")];
+    assert_eq!(filter.decide(&Request::get("/", &bytes), &Facts::default()), Err(Error::BadRequest));
+    assert_eq!(filter.decide_head(b"GET / HTTP/1.1\r\n", &Facts::default()), Err(Error::BadRequest));
+    assert_eq!(Error::OutsideLimits.http_status(), 431);
+    let old = Request { method: "GET", target: "/", lines: &none[..], protocol: Protocol::Http10 };
+    assert!(filter.decide(&old, &Facts::default()).expect("HTTP/1.0 needs no host").allowed);
+}
+
+#[test]
+fn facts_of_each_form() {
+    let mut filter = filter_of("any_any.bin");
+    let facts = Facts {
+        scheme: String::from("https"),
+        source: Some(SocketAddr::from(([0, 0, 0, 0, 0, 0xffff, 0x7f00, 1], 1))),
+        destination: Some(SocketAddr::from(([127, 0, 0, 1], 65535))),
+        direct_remote_ip: Some(IpAddr::from([10, 0, 0, 1])),
+        remote_ip: Some(IpAddr::from([0, 0, 0, 0, 0, 0, 0, 1])),
+        tls_version: Some(String::from("TLSv1.3")),
+        mtls: Some(true),
+        connection_id: Some(u64::MAX),
+        ..Facts::default()
+    };
+    assert_eq!(filter.decide(&Request::get("/", &HOST), &facts), Ok(Decision { allowed: true, policy: Some(0) }));
+    let long = Facts { tls_version: Some("a".repeat(65_537)), ..Facts::default() };
+    assert_eq!(filter.decide(&Request::get("/", &HOST), &long), Err(Error::BadRequest));
+}
+
+#[test]
+fn protocols() {
+    // allowed is what the condition `request.protocol == "HTTP/2"` allows
+    let text = "0a4a12480a017012430a02180112021801223922371003323312045f3d3d5f1a1d10022a190a0d100122090a0772657175657374120870726f746f636f6c1a0c10041a083206";
+    let mut message: Vec<u8> = (0..text.len() / 2).map(|at| u8::from_str_radix(&text[2 * at..2 * at + 2], 16).expect("a byte")).collect();
+    message.extend(b"HTTP/2");
+    let mut filter = Filter::admit(&message, &Options::default()).expect("the filter is admitted");
+    for (protocol, wanted) in [(Protocol::Http10, false), (Protocol::Http11, false), (Protocol::Http2, true), (Protocol::Http3, false)] {
+        let request = Request { protocol, ..Request::get("/", &HOST) };
+        assert_eq!(filter.decide(&request, &Facts::default()).map(|it| it.allowed), Ok(wanted), "{:?}", protocol);
+    }
+}
+
+#[test]
+fn refusals() {
+    let small = Options { budget: 1, ..Options::default() };
+    let refused = Filter::admit(&example("condition.bin"), &small).err().expect("it is refused");
+    assert_eq!((refused.status(), refused.place()), (15, "policy \"readers\": checked_condition"));
+    for (message, status) in [(&b""[..], 4), (&b"\x0a\xff"[..], 1)] {
+        assert_eq!(Filter::admit(message, &Options::default()).err().map(|it| it.status()), Some(status));
+    }
+    for options in [
+        Options { budget: 0, ..Options::default() },
+        Options { visits: 1 << 63, ..Options::default() },
+        Options { bounds: Bounds { fields: 1, ..Bounds::default() }, ..Options::default() },
+    ] {
+        assert_eq!(Filter::admit(&example("any_any.bin"), &options).err().map(|it| it.status()), Some(-2), "{:?}", options);
+    }
+}
+
+#[test]
+fn smaller_bounds() {
+    let bounds = Bounds { fields: 10, name: 64, value: 100, method: 32, target: 20, text: 100 };
+    let options = Options { bounds, ..Options::default() };
+    let mut less = Filter::admit(&example("condition.bin"), &options).expect("the filter is admitted");
+    assert!(less.bound() < filter_of("condition.bin").bound());
+    let target = "/a".repeat(10) + "a";
+    assert_eq!(less.decide(&Request::get(&target, &HOST), &Facts::default()), Err(Error::OutsideLimits));
+}
+
+#[test]
+fn threads_share_a_filter() {
+    let mut first = filter_of("condition.bin");
+    let threads: Vec<_> = (0..4)
+        .map(|_| {
+            let mut own = first.share().expect("memory");
+            thread::spawn(move || (0..200).all(|_| said(&mut own, "/").0 && !said(&mut own, "/admin").0))
+        })
+        .collect();
+    drop(first);
+    for each in threads {
+        assert!(each.join().expect("the thread ends"));
+    }
+}
+
+#[test]
+fn names_by_number() {
+    let mut filter = filter_of("condition.bin");
+    assert_eq!((filter.policies(), filter.policy_name(0).as_deref(), filter.policy_name(1)), (1, Some("readers"), None));
+    let _ = vupresal::is_proved();
+}
