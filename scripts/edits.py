@@ -113,12 +113,16 @@ def has_test(folder, path):
     return file.is_file() and bool(re.search(rf"#\[test\]\s+(?:pub )?fn {test}\b", file.read_text()))
 
 
+COMMENT = re.compile(rb"^[ \t]*(//|--).*\n", re.M)
+
+
 def sum_of(crate):
-    """A sum of the files that a crate's proofs are made of: those of src/, specs/ and proofs/. What is in the crates below is not in it."""
+    """A sum of what a crate's proofs are made of: its src/, specs/ and proofs/ without their comments. The crates below are not in it."""
     files = sorted(it for kind in ("src", "specs", "proofs") for it in (crate / kind).rglob("*") if it.is_file())
     made = hashlib.sha256()
     for it in files:
-        made.update(f"{it.relative_to(crate)} {it.stat().st_size}\n".encode() + it.read_bytes())
+        bare = COMMENT.sub(b"", it.read_bytes())
+        made.update(f"{it.relative_to(crate)} {len(bare)}\n".encode() + bare)
     return made.hexdigest()
 
 

@@ -52,7 +52,7 @@ impl State {
     }
 }
 
-/// A list with no policies for each of the filters.
+// A list with no policies for each of the filters.
 fn no_policies(
     alloc: Global,
     filters: &IndexMap<String, Budget>,
@@ -116,7 +116,7 @@ impl Draft {
     }
 }
 
-/// Puts each given policy in its place; if none is given, the old one stays. It takes no memory.
+// Puts each given policy in its place; if none is given, the old one stays. It takes no memory.
 fn place(policies: &mut Vec<Option<Admitted>>, mut given: Vec<Option<Admitted>>)
     requires { vec_len given ≤ vec_len policies.old }
     ensures placed { policies_view policies.new.items

@@ -46,7 +46,7 @@ pub(crate) fn answer_all(
     Ok(None)
 }
 
-/// Answers a message if it is a response. If it is not, it ends the stream: returns why.
+// Answers a message if it is a response. If it is not, it ends the stream: returns why.
 fn answer(
     alloc: Global,
     config: &Config,
@@ -68,7 +68,7 @@ fn answer(
     }
 }
 
-/// Answers a response: accepts or refuses it, and appends the reply and the judgement.
+// Answers a response: accepts or refuses it, and appends the reply and the judgement.
 fn answer_response(
     alloc: Global,
     config: &Config,
@@ -86,7 +86,7 @@ fn answer_response(
     }
 }
 
-/// Accepts a response that gives the filters these policies.
+// Accepts a response that gives the filters these policies.
 fn acknowledge(
     alloc: Global,
     config: &Config,
@@ -109,7 +109,7 @@ fn acknowledge(
     Ok(())
 }
 
-/// Refuses a response for this reason.
+// Refuses a response for this reason.
 fn refuse(
     alloc: Global,
     config: &Config,
@@ -138,7 +138,7 @@ fn refuse(
     Ok(())
 }
 
-/// The judgement of a response with this outcome.
+// The judgement of a response with this outcome.
 fn judgement_of(
     alloc: Global,
     response: &DiscoveryResponse<'_>,
@@ -155,7 +155,7 @@ fn judgement_of(
     })
 }
 
-/// Whether each filter is given policies.
+// Whether each filter is given policies.
 fn filters_given(alloc: Global, given: &[Option<Admitted>]) -> Result<Vec<bool>, AllocError>
     ensures { IfOk result (λ v. v.items ≡ map is_some given.now) }
 {
@@ -166,7 +166,7 @@ fn filters_given(alloc: Global, given: &[Option<Admitted>]) -> Result<Vec<bool>,
     Ok(filters)
 }
 
-/// The reason, with a copy of the message.
+// The reason, with a copy of the message.
 fn refused_of(alloc: Global, refusing: &RefusalCause<'_>) -> Result<Refused, AllocError>
     ensures { IfOk result (λ r. (r.fault ≡ refusing.now.fault) × (r.filter ≡ refusing.now.filter)
         × (r.message.items ≡ refusing.now.message.now)) }

@@ -17,7 +17,7 @@ use std::marker::Model;
 /// The greatest number of filters in a configuration.
 pub(crate) const MOST_FILTERS: usize = 8;
 
-/// The greatest length in bytes of a filter's name, of the node and of the cluster.
+// The greatest length in bytes of a filter's name, of the node and of the cluster.
 const LONGEST_NAME: usize = 256;
 
 /// A filter: the name of its resource, and the budget of its conditions.
@@ -166,7 +166,7 @@ impl Config {
     }
 }
 
-/// Refuses a configuration without a filter, or with more than 8.
+// Refuses a configuration without a filter, or with more than 8.
 fn check_count(count: usize) -> Result<(), ConfigFault>
     ensures found { OnOk result ((0 < count) × (count ≤ 8)) }
     ensures fault { IfErr result (λ e. ((count ≡ 0) × (e ≡ NoFilter)) ⊎ ((8 < count) × (e ≡ TooManyFilters))) }
@@ -180,7 +180,7 @@ fn check_count(count: usize) -> Result<(), ConfigFault>
     Ok(())
 }
 
-/// Refuses a node or a cluster of more than 256 bytes.
+// Refuses a node or a cluster of more than 256 bytes.
 fn check_text(text: &str) -> Result<(), ConfigFault>
     ensures found { OnOk result (length text.now ≤ 256) }
     ensures fault { IfErr result (λ e. (256 < length text.now) × (e ≡ BadName)) }
@@ -191,7 +191,7 @@ fn check_text(text: &str) -> Result<(), ConfigFault>
     Ok(())
 }
 
-/// Refuses filters with a bad name or a bad budget.
+// Refuses filters with a bad name or a bad budget.
 fn check_filters(filters: &[Filter]) -> Result<(), ConfigFault>
     ensures found { OnOk result (AllByRecursion IsFilter (filters_view filters.now)) }
     ensures fault { IfErr result (λ e. SomeOf (λ f. FilterIsAtFault f e) (filters_view filters.now)) }
@@ -202,7 +202,7 @@ fn check_filters(filters: &[Filter]) -> Result<(), ConfigFault>
     Ok(())
 }
 
-/// Refuses a filter with a bad name or a bad budget.
+// Refuses a filter with a bad name or a bad budget.
 fn check_filter(filter: &Filter) -> Result<(), ConfigFault>
     ensures found { OnOk result (IsFilter (filter_view filter.now)) }
     ensures fault { IfErr result (FilterIsAtFault (filter_view filter.now)) }
@@ -216,7 +216,7 @@ fn check_filter(filter: &Filter) -> Result<(), ConfigFault>
     Ok(())
 }
 
-/// Refuses filters if two have the same name.
+// Refuses filters if two have the same name.
 fn check_names(filters: &[Filter]) -> Result<(), ConfigFault>
     ensures found { OnOk result (Repeats (filters_view filters.now) → ⊥) }
     ensures fault { IfErr result (λ e. Repeats (filters_view filters.now) × (e ≡ DoubledName)) }
@@ -231,7 +231,7 @@ fn check_names(filters: &[Filter]) -> Result<(), ConfigFault>
     Ok(())
 }
 
-/// Whether a filter has the name.
+// Whether a filter has the name.
 fn has_name(filters: &[Filter], name: &str) -> bool
     ensures { MatchBool result
         (SomeOf (HasName name.now) (filters_view filters.now))
@@ -245,7 +245,7 @@ fn has_name(filters: &[Filter], name: &str) -> bool
     false
 }
 
-/// The filters as a map, in the same order. No two have the same name.
+// The filters as a map, in the same order. No two have the same name.
 fn ordered(alloc: Global, filters: Vec<Filter>) -> Result<IndexMap<String, Budget>, AllocError>
     requires { Repeats (filters_view filters.items) → ⊥ }
     ensures { IfOk result (λ m. entries_view m.entries ≡ filters_view filters.items) }

@@ -53,8 +53,8 @@ pub(crate) fn judge<'a>(
     judgement(given_by(alloc, config, response))
 }
 
-/// The judgement, with exactly this refusal. The error is out of memory exactly if memory ran out outside of an
-/// admission.
+// The judgement, with exactly this refusal. The error is out of memory exactly if memory ran out outside of an
+// admission.
 fn judgement<'a>(
     given: Result<Vec<Option<Admitted>>, NotAccepted<'a>>,
 ) -> Result<Judged<'a>, AllocError>
@@ -68,7 +68,7 @@ fn judgement<'a>(
     }
 }
 
-/// The policies that a response gives each filter.
+// The policies that a response gives each filter.
 fn given_by<'a>(
     alloc: Global,
     config: &Config,
@@ -84,7 +84,7 @@ fn given_by<'a>(
     take_all(alloc, config.limits(), config.filters(), &extensions)
 }
 
-/// Refuses any type but that of the resources.
+// Refuses any type but that of the resources.
 fn check_type(type_url: &str) -> Result<(), Refusal>
     ensures found { OnOk result (type_url.now ≡ extension_type) }
     ensures fault { IfErr result (λ e. (type_url.now ≢ extension_type) × (e ≡ WrongType)) }
@@ -95,7 +95,7 @@ fn check_type(type_url: &str) -> Result<(), Refusal>
     Ok(())
 }
 
-/// The resources as extensions; each has a name.
+// The resources as extensions; each has a name.
 fn read_resources<'a>(
     alloc: Global,
     resources: &[Any<'a>],
@@ -111,7 +111,7 @@ fn read_resources<'a>(
     Ok(extensions)
 }
 
-/// The resource as an extension; it has a name.
+// The resource as an extension; it has a name.
 fn read_resource<'a>(alloc: Global, resource: &Any<'a>) -> Result<TypedExtensionConfig<'a>, Refusal>
     ensures found { IfOk result (λ x. IsResource (any_view resource.now) (extension_view x)) }
     ensures fault { IfErr result (ReadFault (any_view resource.now)) }
@@ -122,7 +122,7 @@ fn read_resource<'a>(alloc: Global, resource: &Any<'a>) -> Result<TypedExtension
     Ok(extension)
 }
 
-/// Refuses an extension without a name.
+// Refuses an extension without a name.
 fn require_name(extension: &TypedExtensionConfig<'_>) -> Result<(), Refusal>
     ensures found { OnOk result (extension.now.name.now ≢ []) }
     ensures fault { IfErr result (λ e. (extension.now.name.now ≡ []) × (e ≡ Missing)) }
@@ -133,7 +133,7 @@ fn require_name(extension: &TypedExtensionConfig<'_>) -> Result<(), Refusal>
     Ok(())
 }
 
-/// The policies that the extensions give each of the filters.
+// The policies that the extensions give each of the filters.
 fn take_all<'a>(
     alloc: Global,
     limits: &Limits,
@@ -159,7 +159,7 @@ fn take_all<'a>(
     Ok(given)
 }
 
-/// The policies that the extensions give the filter of this name.
+// The policies that the extensions give the filter of this name.
 fn take<'a>(
     alloc: Global,
     limits: &Limits,
@@ -181,7 +181,7 @@ fn take<'a>(
     }
 }
 
-/// The extension of this name, if there is one. Refuses two of the name.
+// The extension of this name, if there is one. Refuses two of the name.
 fn find<'a>(
     extensions: &[TypedExtensionConfig<'a>],
     name: &str,
@@ -204,7 +204,7 @@ fn find<'a>(
     Ok(found)
 }
 
-/// Admits the filter that the extension holds.
+// Admits the filter that the extension holds.
 fn admit_extension<'a>(
     alloc: Global,
     limits: &Limits,
@@ -230,7 +230,7 @@ fn admit_extension<'a>(
     }
 }
 
-/// The bytes of the filter's message that the extension holds.
+// The bytes of the filter's message that the extension holds.
 fn filter_bytes<'a>(extension: &TypedExtensionConfig<'a>) -> Result<&'a [u8], Refusal>
     ensures found { IfOk result (λ bytes. HoldsFilter (extension_view extension.now) bytes.now) }
     ensures fault { IfErr result (λ e. (e ≡ WrongType)

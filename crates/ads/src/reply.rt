@@ -16,13 +16,13 @@ use proto_wire::Refusal;
 use std::alloc::{AllocError, Global};
 use xds_wire::{DiscoveryRequest, DiscoveryResponse, Node, Status, write_frame, write_request};
 
-/// The code of a response that is wrong (`google.rpc.Code.INVALID_ARGUMENT`).
+// The code of a response that is wrong (`google.rpc.Code.INVALID_ARGUMENT`).
 const INVALID_ARGUMENT: i32 = 3;
 
-/// The code of a refusal because memory ran out (`google.rpc.Code.RESOURCE_EXHAUSTED`).
+// The code of a refusal because memory ran out (`google.rpc.Code.RESOURCE_EXHAUSTED`).
 const RESOURCE_EXHAUSTED: i32 = 8;
 
-/// The smallest length that a frame cannot hold, in bytes.
+// The smallest length that a frame cannot hold, in bytes.
 const FRAME_ROOM: usize = 0x1_0000_0000;
 
 /// Appends the frame of the first request on a stream.
@@ -75,7 +75,7 @@ pub(crate) fn put_nack(
     put_frame(alloc, &request, out)
 }
 
-/// The error of a refusal: its code, with this text.
+// The error of a refusal: its code, with this text.
 fn status_of(refusal: Refusal, message: &str) -> Status<'_>
     ensures { status_view result ≡ record { code = code_of refusal; message = message.now } }
 {
@@ -91,7 +91,7 @@ fn status_of(refusal: Refusal, message: &str) -> Status<'_>
     }
 }
 
-/// The text of a refusal's error, with the number of the refusal.
+// The text of a refusal's error, with the number of the refusal.
 fn refusal_text(alloc: Global, refusal: Refusal) -> Result<String, AllocError>
     ensures { IfOk result (λ text. string_bytes text ≡ (status_of refusal).message) }
 {
@@ -99,7 +99,7 @@ fn refusal_text(alloc: Global, refusal: Refusal) -> Result<String, AllocError>
     format!(in alloc; "policy refused: {number}")
 }
 
-/// A request without a node and without an error.
+// A request without a node and without an error.
 fn request_of<'a>(
     alloc: Global,
     config: &'a Config,
@@ -119,7 +119,7 @@ fn request_of<'a>(
     })
 }
 
-/// Appends the request's frame. A request of 2^32 bytes or more does not fit in a frame, and counts as out of memory.
+// Appends the request's frame. A request of 2^32 bytes or more does not fit in a frame, and counts as out of memory.
 fn put_frame(
     alloc: Global,
     request: &DiscoveryRequest<'_>,
@@ -135,7 +135,7 @@ fn put_frame(
     write_frame(&message, out)
 }
 
-/// The names of the filters, in configured order.
+// The names of the filters, in configured order.
 fn names<'a>(
     alloc: Global,
     filters: &'a IndexMap<String, Budget>,

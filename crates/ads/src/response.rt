@@ -44,7 +44,7 @@ pub(crate) fn decimal_text(alloc: Global, number: u64) -> Result<String, AllocEr
     format!(in alloc; "{number}")
 }
 
-/// The message of a response with this version, this nonce and these resources.
+// The message of a response with this version, this nonce and these resources.
 fn written(
     alloc: Global,
     version: &str,
@@ -66,7 +66,7 @@ fn written(
     Ok(message)
 }
 
-/// The messages of the resources with one of these names, in order.
+// The messages of the resources with one of these names, in order.
 fn extensions(
     alloc: Global,
     resources: &[Resource],
@@ -84,14 +84,14 @@ fn extensions(
     Ok(values)
 }
 
-/// Whether the name is one of those that the request lists.
+// Whether the name is one of those that the request lists.
 fn is_asked(names: &[&str], name: &str) -> bool
     ensures { result ≡ list_any (λ n. bytes_eq n name.now) (texts_view names.now) }
 {
     names.iter().any(|other| *other == name)
 }
 
-/// The message of a resource, as an extension.
+// The message of a resource, as an extension.
 fn extension_bytes(alloc: Global, resource: &Resource) -> Result<Vec<u8>, AllocError>
     ensures { IfOk result (λ v. ExtensionWritten (extension_of (resource_view resource.now)) v.items) }
 {
@@ -107,7 +107,7 @@ fn extension_bytes(alloc: Global, resource: &Resource) -> Result<Vec<u8>, AllocE
     Ok(bytes)
 }
 
-/// The messages, as resources of a response.
+// The messages, as resources of a response.
 fn any_messages<'a>(alloc: Global, values: &'a [Vec<u8>]) -> Result<Vec<Any<'a>>, AllocError>
     ensures { IfOk result (λ v. map any_view v.items ≡ map (λ b. any_of b.items) values.now) }
 {

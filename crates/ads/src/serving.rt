@@ -74,7 +74,7 @@ pub(crate) fn serve_all(
     Ok(None)
 }
 
-/// Serves a message. Returns why it ends the stream, if it does: it is no request, or its response cannot be sent.
+// Serves a message. Returns why it ends the stream, if it does: it is no request, or its response cannot be sent.
 fn serve(
     alloc: Global,
     snapshots: &[Snapshot],
@@ -89,7 +89,7 @@ fn serve(
     }
 }
 
-/// Serves a request, and appends the exchange. Returns why it ends the stream, if it does.
+// Serves a request, and appends the exchange. Returns why it ends the stream, if it does.
 fn take_request(
     alloc: Global,
     snapshots: &[Snapshot],
@@ -109,7 +109,7 @@ fn take_request(
     Ok(None)
 }
 
-/// The response that was sent last, if more were sent than before.
+// The response that was sent last, if more were sent than before.
 fn sent_since(before: u64, served: &Served) -> Option<Sent>
     ensures { result ≡ sent_since before (served_view served.now) }
 {
@@ -122,7 +122,7 @@ fn sent_since(before: u64, served: &Served) -> Option<Sent>
     })
 }
 
-/// The exchange of a request for which this response was sent.
+// The exchange of a request for which this response was sent.
 fn exchange_of(
     alloc: Global,
     request: &DiscoveryRequest<'_>,
@@ -141,7 +141,7 @@ fn exchange_of(
     })
 }
 
-/// What a request says.
+// What a request says.
 fn meaning_of_request(
     alloc: Global,
     request: &DiscoveryRequest<'_>,
@@ -157,7 +157,7 @@ fn meaning_of_request(
     Ok(RequestMeaning::Refuses(String::from_str(alloc, status.message)?))
 }
 
-/// Serves a request. Returns whether it ends the stream.
+// Serves a request. Returns whether it ends the stream.
 fn serve_request(
     alloc: Global,
     snapshots: &[Snapshot],
@@ -180,7 +180,7 @@ fn serve_request(
     }
 }
 
-/// The kind of a request, after what was served.
+// The kind of a request, after what was served.
 fn kind_of(
     alloc: Global,
     request: &DiscoveryRequest<'_>,
@@ -209,7 +209,7 @@ fn kind_of(
     Ok(Kind::Ignored)
 }
 
-/// Whether the text is the number in decimal.
+// Whether the text is the number in decimal.
 fn is_number(alloc: Global, text: &str, number: u64) -> Result<bool, AllocError>
     ensures { IfOk result (λ is. MatchBool is (text.now ≡ decimal number) (text.now ≢ decimal number)) }
 {
@@ -217,7 +217,7 @@ fn is_number(alloc: Global, text: &str, number: u64) -> Result<bool, AllocError>
     Ok(digits.as_str() == text)
 }
 
-/// Makes the next snapshot, if there is one, the current one and sends it. Returns whether that ends the stream.
+// Makes the next snapshot, if there is one, the current one and sends it. Returns whether that ends the stream.
 fn advance(
     alloc: Global,
     snapshots: &[Snapshot],
@@ -236,8 +236,8 @@ fn advance(
     send(alloc, snapshots, served, replies, names)
 }
 
-/// Sends the current snapshot, if there is one. The stream ends, and nothing is sent, if the response is too long or
-/// its number does not fit in 64 bits. Returns whether the stream ends.
+// Sends the current snapshot, if there is one. The stream ends, and nothing is sent, if the response is too long or
+// its number does not fit in 64 bits. Returns whether the stream ends.
 fn send(
     alloc: Global,
     snapshots: &[Snapshot],
@@ -265,7 +265,7 @@ fn send(
     Ok(false)
 }
 
-/// Appends the frame of a message, unless the message is too long. Returns whether it is; if it is, no memory is taken.
+// Appends the frame of a message, unless the message is too long. Returns whether it is; if it is, no memory is taken.
 fn put_message(message: &[u8], replies: &mut Vec<u8>) -> Result<bool, AllocError>
     ensures found { IfOk result (λ is. MatchBool is
         ((most_bytes < length message.now) × (replies.new.items ≡ replies.old.items))
@@ -280,7 +280,7 @@ fn put_message(message: &[u8], replies: &mut Vec<u8>) -> Result<bool, AllocError
     Ok(false)
 }
 
-/// The snapshot of this number, if there is one.
+// The snapshot of this number, if there is one.
 fn snapshot_at(snapshots: &[Snapshot], number: usize) -> Option<&Snapshot>
     ensures { MatchOption result
         ((s : List ResourceValue) → IsSnapshot (snapshots_view snapshots.now) number s → ⊥)

@@ -101,7 +101,7 @@ pub(crate) fn answered(
     Ok((draft, kept(frames, ended.is_some()), ended))
 }
 
-/// Why a stream ends: a message ended it, or its frames are broken.
+// Why a stream ends: a message ended it, or its frames are broken.
 fn end_of(reason: Option<Ended>, fault: Option<FrameFault>) -> Option<Ended>
     ensures { result ≡ ended_by reason fault }
 {
@@ -141,7 +141,7 @@ pub(crate) fn served_by(
     Ok((serving, kept(frames, ended.is_some()), ended))
 }
 
-/// The stream, unless it ended.
+// The stream, unless it ended.
 fn kept(frames: Frames, ended: bool) -> Option<Stream>
     requires max { frames.max ≡ most_bytes }
     requires taken { ended ≡ false → frames.messages ≡ [] }
@@ -154,7 +154,7 @@ fn kept(frames: Frames, ended: bool) -> Option<Stream>
     Some(Stream { frames })
 }
 
-/// Feeds the frames, and returns why they are broken now, if they are. After an error all is as before the call.
+// Feeds the frames, and returns why they are broken now, if they are. After an error all is as before the call.
 fn feed_frames(frames: &mut Frames, bytes: &[u8]) -> Result<Option<FrameFault>, AllocError>
     ensures found { IfOk result (λ fault. wire.Feeds frames.old bytes.now frames.new
         × (fault ≡ fault_in frames.new.tail)) }

@@ -15,7 +15,7 @@ use std::mem;
 /// A header: a name in lower case, and the values of all lines of that name, joined.
 #[derive(Clone, Copy, Debug)]
 pub(crate) struct Field {
-    // the first bytes of the name, a hint for the search; no contract mentions it
+    /// The first bytes of the name, a hint for the search; no contract mentions it.
     pub(crate) start: u64,
     pub(crate) name: Part,
     pub(crate) value: Part,

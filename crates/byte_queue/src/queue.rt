@@ -131,7 +131,7 @@ fn append_both(
     Ok(())
 }
 
-/// Puts bytes after others, and these after them.
+// Puts bytes after others, and these after them.
 fn extend(bytes: &mut Vec<u8>, more: &[u8], end: &[u8]) -> Result<(), AllocError>
     ensures found { OnOk result (bytes.new.items ≡ bytes.old.items ++ more.now ++ end.now) }
     ensures fault { OnErr result (bytes.new.items ≡ bytes.old.items) }

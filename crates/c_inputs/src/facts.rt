@@ -94,7 +94,7 @@ pub fn conn_of(alloc: Global, facts: &FactsInput<'_>) -> Result<Conn, FactsFault
     })
 }
 
-/// The text of these bytes, if they are not too many.
+// The text of these bytes, if they are not too many.
 fn text_in(bytes: &[u8]) -> Result<&str, FactsFault>
     ensures found { IfOk result (λ text. (text.now ≡ bytes.now) × IsText bytes.now) }
     ensures fault { IfErr result (λ e. (e ≡ NoText) × ¬ (IsText bytes.now)) }
@@ -127,7 +127,7 @@ fn text_or_none(alloc: Global, given: &Text<'_>) -> Result<Option<ArcStr>, Facts
     Ok(Some(shared_text(alloc, given.bytes)?))
 }
 
-/// The name of a server, in its one form.
+// The name of a server, in its one form.
 fn name_or_none(alloc: Global, given: &Text<'_>) -> Result<Option<ArcStr>, FactsFault>
     ensures found { IfOk result (λ name. text_view name ≡ option_map server_name (text_given given.now)) }
     ensures accepted { IfOk result (λ name. IfSome (text_given given.now) IsText) }
@@ -140,7 +140,7 @@ fn name_or_none(alloc: Global, given: &Text<'_>) -> Result<Option<ArcStr>, Facts
     Ok(None)
 }
 
-/// Whether each port and each address is one, or absent.
+// Whether each port and each address is one, or absent.
 fn are_in_range(facts: &FactsInput<'_>) -> bool
     ensures { IsTrue result ↔ AreInRange facts.now }
 {

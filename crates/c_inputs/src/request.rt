@@ -42,7 +42,7 @@ impl<'a> RequestInput<'a> {
     }
 }
 
-/// The protocol of this number.
+// The protocol of this number.
 fn protocol_numbered(http11: bool, number: u64) -> Option<Protocol>
     ensures { result ≡ protocol_numbered http11 number }
 {
@@ -54,7 +54,7 @@ fn protocol_numbered(http11: bool, number: u64) -> Option<Protocol>
     }
 }
 
-/// Whether some line's name has more than `most` bytes, or its value more than a head.
+// Whether some line's name has more than `most` bytes, or its value more than a head.
 fn has_long_line(lines: &[Line<'_>], most: usize) -> bool
     ensures { result ≡ has_long_line most (map field_view lines.now) }
 {

@@ -59,14 +59,14 @@ pub fn holds(
     Ok(is_true(&outcome.result))
 }
 
-/// Whether an answer is true.
+// Whether an answer is true.
 fn is_true(answer: &Answer) -> bool
     ensures { (result ≡ true) ↔ (answer_view answer.now ≡ value (bool true)) }
 {
     matches!(answer, Ok(Value::Bool(true)))
 }
 
-/// The verified code of an expression that was read.
+// The verified code of an expression that was read.
 fn compiled(alloc: Global, checked: &Checked) -> Result<Verified, Refusal>
     requires { (parts : List (List ℕ)) × IsChecked parts (checked_view checked.now) }
     ensures found { IfOk result (λ code. IsCodeOf (checked_view checked.now) (code_view code)) }
@@ -77,7 +77,7 @@ fn compiled(alloc: Global, checked: &Checked) -> Result<Verified, Refusal>
     verified(alloc, code, typed.root.cel_type())
 }
 
-/// Verifies code of which one pass finds a table.
+// Verifies code of which one pass finds a table.
 fn verified(alloc: Global, code: Code, result_type: &CelType) -> Result<Verified, Refusal>
     requires { Forward (code_view code) (type_view result_type.now) }
     ensures found { IfOk result (λ v. v ≡ code) }

@@ -27,7 +27,7 @@ pub fn messages_in(alloc: Global, pieces: &[&[u8]], most: usize) -> Result<Vec<M
     Ok(messages)
 }
 
-/// Takes all whole messages. The only error is out of memory.
+// Takes all whole messages. The only error is out of memory.
 fn take_messages(frames: &mut Frames, messages: &mut Vec<Message>) -> Result<(), FrameError>
     ensures taken { OnOk result ((frames.new.messages ≡ [])
         × (messages.new.items ≡ messages.old.items ++ frames.old.messages)) }

@@ -22,8 +22,8 @@ pub(crate) fn require_few_locals(expr: &TypedExpr<'_>) -> Result<(), Refusal>
     Ok(())
 }
 
-/// Whether no part of the expression has more than 255 locals in scope, if `depth` are in scope outside of
-/// it.
+// Whether no part of the expression has more than 255 locals in scope, if `depth` are in scope outside of
+// it.
 #[cycle(few_locals)]
 fn has_few_locals(depth: u8, expr: &TypedExpr<'_>) -> bool
     ensures { IsTrue result ↔ HasFewLocals depth (expr_view expr.now) }

@@ -94,7 +94,7 @@ pub(super) fn eval<'t>(
     }
 }
 
-/// A Select: a root's attribute, or a test or value of a map at a name; and the place of the map.
+// A Select: a root's attribute, or a test or value of a map at a name; and the place of the map.
 #[cycle(eval)]
 fn eval_select<'t>(
     around: &Around<'_, 't>,
@@ -135,7 +135,7 @@ fn eval_select<'t>(
     }
 }
 
-/// The target of a call, if there is one.
+// The target of a call, if there is one.
 #[cycle(eval)]
 fn eval_target<'t>(
     around: &Around<'_, 't>,
@@ -162,7 +162,7 @@ fn eval_target<'t>(
     }
 }
 
-/// Expressions in order.
+// Expressions in order.
 #[cycle(eval)]
 fn eval_each<'t>(
     around: &Around<'_, 't>,
@@ -186,7 +186,7 @@ fn eval_each<'t>(
     Ok(Some(answers))
 }
 
-/// Keys and values, in turn.
+// Keys and values, in turn.
 #[cycle(eval)]
 fn eval_entries<'t>(
     around: &Around<'_, 't>,
@@ -214,7 +214,7 @@ fn eval_entries<'t>(
     Ok(Some(answers))
 }
 
-/// A comprehension: its range, its initial value, and then its turns and its result.
+// A comprehension: its range, its initial value, and then its turns and its result.
 #[cycle(eval)]
 fn eval_loop<'t>(
     around: &Around<'_, 't>,
@@ -246,7 +246,7 @@ fn eval_loop<'t>(
     }
 }
 
-/// All turns of a comprehension, from this accumulator, and then its result.
+// All turns of a comprehension, from this accumulator, and then its result.
 #[cycle(eval)]
 fn eval_turns<'t>(
     around: &Around<'_, 't>,
@@ -284,7 +284,7 @@ fn eval_turns<'t>(
     eval_result(around, parts, &gathered, left)
 }
 
-/// The result of the last accumulator.
+// The result of the last accumulator.
 #[cycle(eval)]
 fn eval_result<'t>(
     around: &Around<'_, 't>,
@@ -310,7 +310,7 @@ fn eval_result<'t>(
     eval(&inner, &parts.result, left)
 }
 
-/// One turn, with its variables and the accumulator around it.
+// One turn, with its variables and the accumulator around it.
 #[cycle(eval)]
 fn eval_turn<'t>(
     around: &Around<'_, 't>,

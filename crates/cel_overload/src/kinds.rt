@@ -6,7 +6,7 @@ ghost use Rattle.cel_overload.specs.private.Choosing.{is_joined, is_number, is_s
 
 use cel_value::{CelType, KeyType};
 
-// Whether the type has arithmetic: int and uint.
+/// Whether the type has arithmetic: int and uint.
 pub(crate) fn is_number(kind: &CelType) -> bool
     ensures { result ≡ is_number (type_view kind.now) }
 {
@@ -17,7 +17,7 @@ pub(crate) fn is_number(kind: &CelType) -> bool
     }
 }
 
-// Whether values of the type can be joined.
+/// Whether values of the type can be joined.
 pub(crate) fn is_joined(kind: &CelType) -> bool
     ensures { result ≡ is_joined (type_view kind.now) }
 {
@@ -27,7 +27,7 @@ pub(crate) fn is_joined(kind: &CelType) -> bool
     }
 }
 
-// Whether values of the type have a size.
+/// Whether values of the type have a size.
 pub(crate) fn is_sized(kind: &CelType) -> bool
     ensures { result ≡ is_sized (type_view kind.now) }
 {
@@ -37,7 +37,7 @@ pub(crate) fn is_sized(kind: &CelType) -> bool
     }
 }
 
-// Whether the type is that of these keys.
+/// Whether the type is that of these keys.
 pub(crate) fn has_key_type(kind: &CelType, keys: KeyType) -> bool
     ensures { result ≡ type_eq (type_view kind.now) (type_of_key keys) }
 {

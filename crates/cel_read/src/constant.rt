@@ -33,13 +33,13 @@ const STRING_VALUE: u32 = 6;
 
 const BYTES_VALUE: u32 = 7;
 
-/// The members of the oneof: a Constant has no other fields.
+// The members of the oneof: a Constant has no other fields.
 static CONSTANT: [Key; 7] = keys![
     Varint NULL_VALUE, Varint BOOL_VALUE, Varint INT64_VALUE, Varint UINT64_VALUE, I64 DOUBLE_VALUE,
     Len STRING_VALUE, Len BYTES_VALUE
 ];
 
-/// The last member of a Constant, which determines its value.
+// The last member of a Constant, which determines its value.
 #[derive(Clone, Copy, Debug)]
 struct LastConstant {
     kind: ConstantKind,
@@ -55,7 +55,7 @@ pub(crate) fn read_constant(alloc: Global, parts: &[&[u8]]) -> Result<Constant, 
     constant_of(alloc, &fields)
 }
 
-/// The constant that the fields mean.
+// The constant that the fields mean.
 fn constant_of(alloc: Global, fields: &[Field<'_>]) -> Result<Constant, Refusal>
     ensures found { IfOk result (λ constant.
         OneofSays constants Never ConstantSays (map field_view fields.now) (constant_view constant)) }
@@ -67,7 +67,7 @@ fn constant_of(alloc: Global, fields: &[Field<'_>]) -> Result<Constant, Refusal>
     constant_in(alloc, last, &run)
 }
 
-/// The last member of a Constant's fields: `Missing` if there is none, `Unsupported` if it is not supported.
+// The last member of a Constant's fields: `Missing` if there is none, `Unsupported` if it is not supported.
 fn last_constant(fields: &[Field<'_>]) -> Result<LastConstant, Refusal>
     ensures found { IfOk result (λ last.
         (last_number constant_keys (map field_view fields.now) ≡ Some last.number)
@@ -84,7 +84,7 @@ fn last_constant(fields: &[Field<'_>]) -> Result<LastConstant, Refusal>
     }
 }
 
-/// The member of this number; `None` if it is not supported.
+// The member of this number; `None` if it is not supported.
 fn constant_at(number: u32) -> Option<ConstantKind>
     ensures { result ≡ member_in constants number }
 {
@@ -98,7 +98,7 @@ fn constant_at(number: u32) -> Option<ConstantKind>
     }
 }
 
-/// The constant that the last member's run means.
+// The constant that the last member's run means.
 fn constant_in(alloc: Global, last: LastConstant, run: &[Field<'_>]) -> Result<Constant, Refusal>
     ensures found { IfOk result (λ constant.
         ConstantSays last.kind last.number (map field_view run.now) (constant_view constant)) }

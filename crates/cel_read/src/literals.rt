@@ -22,17 +22,17 @@ use proto_wire::{
 };
 use std::alloc::Global;
 
-/// The fields of a CreateList.
+// The fields of a CreateList.
 const ELEMENTS: u32 = 1;
 
 const OPTIONAL_INDICES: u32 = 2;
 
-/// The fields of a CreateStruct.
+// The fields of a CreateStruct.
 const MESSAGE_NAME: u32 = 1;
 
 const ENTRIES: u32 = 2;
 
-/// The fields of an Entry.
+// The fields of an Entry.
 const ID: u32 = 1;
 
 const FIELD_KEY: u32 = 2;
@@ -50,7 +50,7 @@ static STRUCT: [Key; 2] = keys![Len MESSAGE_NAME, Len ENTRIES];
 static ENTRY: [Key; 5] =
     keys![Varint ID, Len FIELD_KEY, Len MAP_KEY, Len VALUE, Varint OPTIONAL_ENTRY];
 
-/// The members of the oneof of an Entry.
+// The members of the oneof of an Entry.
 static ENTRY_KEY: [Key; 2] = keys![Len FIELD_KEY, Len MAP_KEY];
 
 /// Reads a CreateList from its parts.
@@ -62,7 +62,7 @@ pub(crate) fn read_list<'a>(alloc: Global, parts: &[&'a [u8]]) -> Result<Node<'a
     list_of(alloc, &fields)
 }
 
-/// The node that the fields of a CreateList mean.
+// The node that the fields of a CreateList mean.
 fn list_of<'a>(alloc: Global, fields: &[Field<'a>]) -> Result<Node<'a>, Refusal>
     ensures found { IfOk result (λ node. ListSays (map field_view fields.now) (node_view node)) }
     ensures fault { IfErr result (MemoryOr (ValuesFault Never ListWrong (map field_view fields.now))) }
@@ -71,7 +71,7 @@ fn list_of<'a>(alloc: Global, fields: &[Field<'a>]) -> Result<Node<'a>, Refusal>
     Ok(Node::List(payloads_of(alloc, fields, ELEMENTS)?))
 }
 
-/// Refuses a list with optional_indices.
+// Refuses a list with optional_indices.
 fn refuse_optional_elements(fields: &[Field<'_>]) -> Result<(), Refusal>
     ensures found { OnOk result (has_field list_field.optional_indices (map field_view fields.now) ≡ false) }
     ensures fault { IfErr result (λ e.
@@ -92,7 +92,7 @@ pub(crate) fn read_struct<'a>(alloc: Global, parts: &[&'a [u8]]) -> Result<Node<
     struct_of(alloc, &fields)
 }
 
-/// The node that the fields of a CreateStruct mean.
+// The node that the fields of a CreateStruct mean.
 fn struct_of<'a>(alloc: Global, fields: &[Field<'a>]) -> Result<Node<'a>, Refusal>
     ensures found { IfOk result (λ node. StructSays (map field_view fields.now) (node_view node)) }
     ensures fault { IfErr result (MemoryOr (ValuesFault Never StructWrong (map field_view fields.now))) }
@@ -101,7 +101,7 @@ fn struct_of<'a>(alloc: Global, fields: &[Field<'a>]) -> Result<Node<'a>, Refusa
     Ok(Node::Map(entries_of(alloc, fields)?))
 }
 
-/// The entries that the fields of a CreateStruct mean.
+// The entries that the fields of a CreateStruct mean.
 fn entries_of<'a>(alloc: Global, fields: &[Field<'a>]) -> Result<Vec<EntryNode<'a>>, Refusal>
     ensures found { IfOk result (λ entries.
         AllZip IsMapEntry (payloads struct_field.entries (map field_view fields.now)) (entry_nodes_view entries.items)) }
@@ -112,7 +112,7 @@ fn entries_of<'a>(alloc: Global, fields: &[Field<'a>]) -> Result<Vec<EntryNode<'
     read_entries(alloc, &payloads)
 }
 
-/// Refuses a message_name, which would construct a message.
+// Refuses a message_name, which would construct a message.
 fn refuse_message(fields: &[Field<'_>]) -> Result<(), Refusal>
     ensures found { OnOk result (bytes_at struct_field.message_name (map field_view fields.now) ≡ []) }
     ensures fault { IfErr result (λ e.
@@ -124,7 +124,7 @@ fn refuse_message(fields: &[Field<'_>]) -> Result<(), Refusal>
     Err(Refusal::Unsupported)
 }
 
-/// Reads the entries of a map literal, one from each payload.
+// Reads the entries of a map literal, one from each payload.
 fn read_entries<'a>(alloc: Global, payloads: &[&'a [u8]]) -> Result<Vec<EntryNode<'a>>, Refusal>
     ensures found { IfOk result (λ entries. AllZip IsMapEntry (parts_view payloads.now) (entry_nodes_view entries.items)) }
     ensures fault { IfErr result (MemoryOr (λ e.
@@ -138,7 +138,7 @@ fn read_entries<'a>(alloc: Global, payloads: &[&'a [u8]]) -> Result<Vec<EntryNod
     Ok(entries)
 }
 
-/// Reads an Entry from its payload.
+// Reads an Entry from its payload.
 fn read_entry<'a>(alloc: Global, payload: &'a [u8]) -> Result<EntryNode<'a>, Refusal>
     ensures found { IfOk result (λ entry. IsMapEntry payload.now (entry_node_view entry)) }
     ensures fault { IfErr result (MemoryOr (MapEntryFault payload.now)) }
@@ -147,7 +147,7 @@ fn read_entry<'a>(alloc: Global, payload: &'a [u8]) -> Result<EntryNode<'a>, Ref
     entry_of(alloc, &fields)
 }
 
-/// The entry that the fields mean.
+// The entry that the fields mean.
 fn entry_of<'a>(alloc: Global, fields: &[Field<'a>]) -> Result<EntryNode<'a>, Refusal>
     ensures found { IfOk result (λ entry. EntrySays (map field_view fields.now) (entry_node_view entry)) }
     ensures fault { IfErr result (MemoryOr (ValuesFault EntryLacks EntryWrong (map field_view fields.now))) }
@@ -161,7 +161,7 @@ fn entry_of<'a>(alloc: Global, fields: &[Field<'a>]) -> Result<EntryNode<'a>, Re
     Ok(EntryNode { id, key, value })
 }
 
-/// Refuses an entry that is optional.
+// Refuses an entry that is optional.
 fn refuse_optional_entry(fields: &[Field<'_>]) -> Result<(), Refusal>
     ensures found { OnOk result (bool_at entry_field.optional_entry (map field_view fields.now) ≡ false) }
     ensures fault { IfErr result (λ e.
@@ -173,7 +173,7 @@ fn refuse_optional_entry(fields: &[Field<'_>]) -> Result<(), Refusal>
     Ok(())
 }
 
-/// Refuses an entry without a key, or with a field_key.
+// Refuses an entry without a key, or with a field_key.
 fn require_map_key(fields: &[Field<'_>]) -> Result<(), Refusal>
     ensures found { OnOk result (last_number key_members (map field_view fields.now) ≡ Some entry_field.map_key) }
     ensures fault { IfErr result (λ e. MatchOption (last_number key_members (map field_view fields.now))

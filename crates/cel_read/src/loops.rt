@@ -49,7 +49,7 @@ pub(crate) fn read_loop<'a>(alloc: Global, parts: &[&'a [u8]]) -> Result<Node<'a
     loop_of(alloc, &fields)
 }
 
-/// The node that the fields of a Comprehension mean.
+// The node that the fields of a Comprehension mean.
 fn loop_of<'a>(alloc: Global, fields: &[Field<'a>]) -> Result<Node<'a>, Refusal>
     ensures found { IfOk result (λ node. LoopSays (map field_view fields.now) (node_view node)) }
     ensures fault { IfErr result (MemoryOr (ValuesFault LoopLacks LoopWrong (map field_view fields.now))) }
@@ -73,7 +73,7 @@ fn loop_of<'a>(alloc: Global, fields: &[Field<'a>]) -> Result<Node<'a>, Refusal>
     }))
 }
 
-/// The payloads of the condition, of the step and of the result.
+// The payloads of the condition, of the step and of the result.
 #[inline(always)]
 fn body_of<'a>(
     alloc: Global,
@@ -89,7 +89,7 @@ fn body_of<'a>(
     Ok((loop_condition, loop_step, result))
 }
 
-/// Refuses names that are not UTF-8.
+// Refuses names that are not UTF-8.
 fn require_names(fields: &[Field<'_>]) -> Result<(), Refusal>
     ensures found { OnOk result (NamesRead (map field_view fields.now)) }
     ensures fault { IfErr result (LoopWrong (map field_view fields.now)) }
@@ -100,7 +100,7 @@ fn require_names(fields: &[Field<'_>]) -> Result<(), Refusal>
     Ok(())
 }
 
-/// Refuses a comprehension that lacks a part.
+// Refuses a comprehension that lacks a part.
 fn require_parts(fields: &[Field<'_>]) -> Result<(), Refusal>
     ensures found { OnOk result (PartsThere (map field_view fields.now)) }
     ensures fault { IfErr result (λ e.

@@ -41,7 +41,7 @@ pub(crate) fn types_of(alloc: Global, fields: &[Field<'_>]) -> Result<TypeMap, F
     read_types(alloc, &named)
 }
 
-/// Reads each type of the map.
+// Reads each type of the map.
 fn read_types(alloc: Global, named: &[MapEntry<'_, i64>]) -> Result<TypeMap, Fault>
     requires { T (is_sorted int_cmp (ids_view named.now)) }
     ensures found { IfOk result (λ m. let es = ids_view named.now in
@@ -70,7 +70,7 @@ pub(crate) fn references_of(alloc: Global, fields: &[Field<'_>]) -> Result<Refer
     read_references(alloc, &named)
 }
 
-/// Reads each reference of the map.
+// Reads each reference of the map.
 fn read_references(alloc: Global, named: &[MapEntry<'_, i64>]) -> Result<ReferenceMap, Fault>
     requires { T (is_sorted int_cmp (ids_view named.now)) }
     ensures found { IfOk result (λ m. let es = ids_view named.now in
@@ -86,7 +86,7 @@ fn read_references(alloc: Global, named: &[MapEntry<'_, i64>]) -> Result<Referen
     Ok(references)
 }
 
-/// What was read of the entry with this id, or its refusal as the entry's fault.
+// What was read of the entry with this id, or its refusal as the entry's fault.
 #[inline(always)]
 fn at_entry<T>(read: Result<T, Refusal>, id: i64) -> Result<T, Fault>
     ensures { MatchResult read (λ x. result ≡ Ok x)

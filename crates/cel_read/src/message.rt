@@ -24,7 +24,7 @@ use proto_wire::{
 };
 use std::alloc::Global;
 
-/// How many nodes a tree may have.
+// How many nodes a tree may have.
 const MOST_NODES: u32 = 2048;
 
 const EXPR: u32 = 4;
@@ -87,7 +87,7 @@ pub fn read_unchecked_at(alloc: Global, parts: &[&[u8]]) -> Result<Checked, Faul
     })
 }
 
-/// The checked expression that the fields mean.
+// The checked expression that the fields mean.
 fn checked_of(alloc: Global, fields: &[Field<'_>]) -> Result<Checked, Fault>
     ensures found { IfOk result (λ c. CheckedSays (map field_view fields.now) (checked_view c)) }
     ensures fault { IfErr result (PlacedOr (CheckedWrongAt (map field_view fields.now))) }
@@ -98,7 +98,7 @@ fn checked_of(alloc: Global, fields: &[Field<'_>]) -> Result<Checked, Fault>
     Ok(Checked { tree, types, refs })
 }
 
-/// Both maps of the fields.
+// Both maps of the fields.
 fn maps_of(alloc: Global, fields: &[Field<'_>]) -> Result<(TypeMap, ReferenceMap), Fault>
     ensures found { let fs = map field_view fields.now in IfOk result (λ maps.
         IsMap int64 (IsTypeEntry tree_depth) (payloads checked_field.type_map fs) (types_view maps.0)
@@ -110,7 +110,7 @@ fn maps_of(alloc: Global, fields: &[Field<'_>]) -> Result<(TypeMap, ReferenceMap
     Ok((types, refs))
 }
 
-/// The tree of the fields.
+// The tree of the fields.
 fn tree_of(alloc: Global, fields: &[Field<'_>]) -> Result<Tree, Fault>
     ensures found { IfOk result (λ t. IsTree tree_depth (payloads checked_field.expr (map field_view fields.now)) (tree_view t)
         × (node_count (tree_view t) ≤ most_nodes)) }
@@ -121,7 +121,7 @@ fn tree_of(alloc: Global, fields: &[Field<'_>]) -> Result<Tree, Fault>
     whole_tree(alloc, &parts)
 }
 
-/// The tree of an expression's payloads, with at most so many nodes as a tree may have.
+// The tree of an expression's payloads, with at most so many nodes as a tree may have.
 fn whole_tree(alloc: Global, parts: &[&[u8]]) -> Result<Tree, Fault>
     ensures found { IfOk result (λ t. IsTree tree_depth (parts_view parts.now) (tree_view t)
         × (node_count (tree_view t) ≤ most_nodes)) }

@@ -41,13 +41,13 @@ static EXPR: [Key; 8] = keys![
     Len STRUCT_EXPR, Len COMPREHENSION_EXPR
 ];
 
-/// The members of the oneof.
+// The members of the oneof.
 static KINDS: [Key; 7] = keys![
     Len CONST_EXPR, Len IDENT_EXPR, Len SELECT_EXPR, Len CALL_EXPR, Len LIST_EXPR, Len STRUCT_EXPR,
     Len COMPREHENSION_EXPR
 ];
 
-/// The last member of an Expr, which determines its node.
+// The last member of an Expr, which determines its node.
 #[derive(Clone, Copy, Debug)]
 struct LastKind {
     kind: NodeKind,
@@ -64,7 +64,7 @@ pub(crate) fn read_node<'a>(alloc: Global, parts: &[&'a [u8]]) -> Result<(i64, N
     node_of(alloc, &fields)
 }
 
-/// The id and the node that the fields mean.
+// The id and the node that the fields mean.
 fn node_of<'a>(alloc: Global, fields: &[Field<'a>]) -> Result<(i64, Node<'a>), Refusal>
     ensures found { IfOk result (λ n. NodeSays (map field_view fields.now) (numbered_view n)) }
     ensures ranged { IfOk result (λ n. IsInt64 n.0) }
@@ -76,7 +76,7 @@ fn node_of<'a>(alloc: Global, fields: &[Field<'a>]) -> Result<(i64, Node<'a>), R
     Ok((int64_at(fields, NODE_ID), node))
 }
 
-/// The node that the last member of an Expr's fields means.
+// The node that the last member of an Expr's fields means.
 fn last_node<'a>(alloc: Global, fields: &[Field<'a>], last: LastKind) -> Result<Node<'a>, Refusal>
     ensures found { IfOk result (λ node. MemberSays last.kind last.number
         (member_run kind_keys (map field_view fields.now)) (node_view node)) }
@@ -87,7 +87,7 @@ fn last_node<'a>(alloc: Global, fields: &[Field<'a>], last: LastKind) -> Result<
     read_kind(alloc, last.kind, &parts)
 }
 
-/// The last member of an Expr's fields: `Missing` if there is none.
+// The last member of an Expr's fields: `Missing` if there is none.
 fn last_kind(fields: &[Field<'_>]) -> Result<LastKind, Refusal>
     ensures found { IfOk result (λ last.
         (last_number kind_keys (map field_view fields.now) ≡ Some last.number)
@@ -104,7 +104,7 @@ fn last_kind(fields: &[Field<'_>]) -> Result<LastKind, Refusal>
     }
 }
 
-/// The member of this number.
+// The member of this number.
 fn kind_at(number: u32) -> Option<NodeKind>
     ensures { result ≡ member_in node_kinds number }
 {
@@ -120,7 +120,7 @@ fn kind_at(number: u32) -> Option<NodeKind>
     }
 }
 
-/// Reads the message of a member of this kind from its parts.
+// Reads the message of a member of this kind from its parts.
 fn read_kind<'a>(alloc: Global, kind: NodeKind, parts: &[&'a [u8]]) -> Result<Node<'a>, Refusal>
     ensures found { IfOk result (λ node. KindSays kind (parts_view parts.now) (node_view node)) }
     ensures fault { IfErr result (MemoryOr (KindFault kind (parts_view parts.now))) }

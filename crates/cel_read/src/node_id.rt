@@ -23,14 +23,14 @@ pub(crate) fn fault_of_expr(parts: &[&[u8]], refusal: Refusal) -> Fault
     fault_of_node(refusal, signed(id_of(parts)))
 }
 
-/// The number with these bits in two's complement.
+// The number with these bits in two's complement.
 fn signed(bits: u64) -> i64
     ensures { result ≡ cast_signed w64 bits }
 {
     bits.cast_signed()
 }
 
-/// The id in the fields of all parts, as it is encoded. Of a part that is no list of fields, those before the fault count.
+// The id in the fields of all parts, as it is encoded. Of a part that is no list of fields, those before the fault count.
 fn id_of(parts: &[&[u8]]) -> u64
     ensures { (fs : List Wire) × AreWholeOf (parts_view parts.now) fs × (result ≡ varint_at node_field.id fs) }
 {
@@ -41,7 +41,7 @@ fn id_of(parts: &[&[u8]]) -> u64
     last
 }
 
-/// The last id in the fields of a part, as it is encoded; the one before them if they have none.
+// The last id in the fields of a part, as it is encoded; the one before them if they have none.
 fn last_id(bytes: &[u8], before: u64) -> u64
     ensures { (fs : List Wire) × AreWhole bytes.now fs
         × (result ≡ unwrap_or (last_of (varints node_field.id fs)) before) }
@@ -54,7 +54,7 @@ fn last_id(bytes: &[u8], before: u64) -> u64
     last
 }
 
-/// The next field; none at the end, and before bytes that are no field.
+// The next field; none at the end, and before bytes that are no field.
 fn next_field<'a>(reader: &mut Reader<'a>) -> Option<Field<'a>>
     ensures found { IfSome result (λ f. StartsField reader.old (field_view f) reader.new) }
     ensures none { result ≡ None → (reader.new ≡ reader.old)

@@ -18,17 +18,17 @@ use proto_wire::{
 use std::alloc::Global;
 use std::sync::ArcStr;
 
-/// The field of an Ident.
+// The field of an Ident.
 const NAME: u32 = 1;
 
-/// The fields of a Select.
+// The fields of a Select.
 const OPERAND: u32 = 1;
 
 const FIELD: u32 = 2;
 
 const TEST_ONLY: u32 = 3;
 
-/// The fields of a Call.
+// The fields of a Call.
 const TARGET: u32 = 1;
 
 const FUNCTION: u32 = 2;
@@ -50,7 +50,7 @@ pub(crate) fn read_ident<'a>(alloc: Global, parts: &[&'a [u8]]) -> Result<Node<'
     ident_of(alloc, &fields)
 }
 
-/// The node that the fields of an Ident mean.
+// The node that the fields of an Ident mean.
 fn ident_of<'a>(alloc: Global, fields: &[Field<'a>]) -> Result<Node<'a>, Refusal>
     ensures found { IfOk result (λ node. IdentSays (map field_view fields.now) (node_view node)) }
     ensures fault { IfErr result (MemoryOr (ValuesFault Never (StringFault ident_field.name) (map field_view fields.now))) }
@@ -67,7 +67,7 @@ pub(crate) fn read_select<'a>(alloc: Global, parts: &[&'a [u8]]) -> Result<Node<
     select_of(alloc, &fields)
 }
 
-/// The node that the fields of a Select mean.
+// The node that the fields of a Select mean.
 fn select_of<'a>(alloc: Global, fields: &[Field<'a>]) -> Result<Node<'a>, Refusal>
     ensures found { IfOk result (λ node. SelectSays (map field_view fields.now) (node_view node)) }
     ensures fault { IfErr result (MemoryOr (ValuesFault SelectLacks (StringFault select_field.field) (map field_view fields.now))) }
@@ -93,7 +93,7 @@ pub(crate) fn read_call<'a>(alloc: Global, parts: &[&'a [u8]]) -> Result<Node<'a
     call_of(alloc, &fields)
 }
 
-/// The node that the fields of a Call mean.
+// The node that the fields of a Call mean.
 fn call_of<'a>(alloc: Global, fields: &[Field<'a>]) -> Result<Node<'a>, Refusal>
     ensures found { IfOk result (λ node. CallSays (map field_view fields.now) (node_view node)) }
     ensures fault { IfErr result (MemoryOr (ValuesFault Never (StringFault call_field.function) (map field_view fields.now))) }

@@ -45,7 +45,7 @@ pub(crate) fn read_tree(
     }
 }
 
-/// Reads an expression's own message, if one more node is within the limits.
+// Reads an expression's own message, if one more node is within the limits.
 #[inline(always)]
 fn read_own<'a>(
     alloc: Global,
@@ -63,7 +63,7 @@ fn read_own<'a>(
     read_node(alloc, parts)
 }
 
-/// Reads the trees inside a node; each may have `depth` levels.
+// Reads the trees inside a node; each may have `depth` levels.
 #[cycle(read)]
 fn read_inside(
     alloc: Global,
@@ -94,7 +94,7 @@ fn read_inside(
     }
 }
 
-/// The Select of this id and field; reads its operand.
+// The Select of this id and field; reads its operand.
 #[cycle(read)]
 #[inline(always)]
 fn select_tree(
@@ -120,7 +120,7 @@ fn select_tree(
     })
 }
 
-/// The Call of this id and function; reads its target and its arguments.
+// The Call of this id and function; reads its target and its arguments.
 #[cycle(read)]
 #[inline(always)]
 fn call_tree(
@@ -147,7 +147,7 @@ fn call_tree(
     })
 }
 
-/// The list literal of this id; reads its elements.
+// The list literal of this id; reads its elements.
 #[cycle(read)]
 #[inline(always)]
 fn list_tree(
@@ -164,7 +164,7 @@ fn list_tree(
     Ok(Tree::List { id, elements })
 }
 
-/// The map literal of this id; reads its entries.
+// The map literal of this id; reads its entries.
 #[cycle(read)]
 #[inline(always)]
 fn map_tree(
@@ -181,7 +181,7 @@ fn map_tree(
     Ok(Tree::Map { id, entries })
 }
 
-/// The comprehension of this id; reads its trees. This function only adds that it drops the node.
+// The comprehension of this id; reads its trees. This function only adds that it drops the node.
 #[cycle(read)]
 #[inline(always)]
 fn loop_tree(
@@ -197,7 +197,7 @@ fn loop_tree(
     lent_loop_tree(alloc, id, &node, depth, left)
 }
 
-/// The same for a borrowed node.
+// The same for a borrowed node.
 #[cycle(read)]
 #[inline(always)]
 fn lent_loop_tree(
@@ -215,7 +215,7 @@ fn lent_loop_tree(
     Ok(Tree::Comprehension { id, parts })
 }
 
-/// Reads the target of a call; none if it has no parts.
+// Reads the target of a call; none if it has no parts.
 #[cycle(read)]
 fn read_target(
     alloc: Global,
@@ -234,7 +234,7 @@ fn read_target(
     Ok(Some(Box::new(alloc, target)?))
 }
 
-/// Reads trees, one from each payload.
+// Reads trees, one from each payload.
 #[cycle(read)]
 fn read_trees(
     alloc: Global,
@@ -254,7 +254,7 @@ fn read_trees(
     Ok(trees)
 }
 
-/// An empty list, with room for `count` trees, but at most for the `left` nodes that may follow.
+// An empty list, with room for `count` trees, but at most for the `left` nodes that may follow.
 fn no_trees(alloc: Global, count: usize, left: u32) -> Result<Vec<Tree>, AllocError>
     ensures { IfOk result (λ v. v.items ≡ []) }
 {
@@ -265,7 +265,7 @@ fn no_trees(alloc: Global, count: usize, left: u32) -> Result<Vec<Tree>, AllocEr
     Vec::with_capacity(alloc, most)
 }
 
-/// Reads the keys and values of a map literal's entries.
+// Reads the keys and values of a map literal's entries.
 #[cycle(read)]
 fn read_entry_trees(
     alloc: Global,
@@ -289,7 +289,7 @@ fn read_entry_trees(
     Ok(entries)
 }
 
-/// Reads the trees of a comprehension.
+// Reads the trees of a comprehension.
 #[cycle(read)]
 fn read_loop_trees(
     alloc: Global,
@@ -317,7 +317,7 @@ fn read_loop_trees(
     })
 }
 
-/// Reads the condition, the step and the result of a comprehension.
+// Reads the condition, the step and the result of a comprehension.
 #[cycle(read)]
 #[inline(always)]
 fn read_loop_body(
@@ -334,7 +334,7 @@ fn read_loop_body(
     both(two, read_tree(alloc, &node.result, depth, left))
 }
 
-/// Reads two trees, in order.
+// Reads two trees, in order.
 #[cycle(read)]
 #[inline(always)]
 fn read_two(
@@ -353,7 +353,7 @@ fn read_two(
     both(first, read_tree(alloc, second, depth, left))
 }
 
-/// The names of a comprehension.
+// The names of a comprehension.
 fn names_of(node: &LoopNode<'_>) -> Result<(ArcStr, ArcStr, ArcStr), AllocError>
     ensures { IfOk result (λ names. (text_view names.0 ≡ text_view node.now.iter_var)
         × (text_view names.1 ≡ text_view node.now.iter_var2)
@@ -365,7 +365,7 @@ fn names_of(node: &LoopNode<'_>) -> Result<(ArcStr, ArcStr, ArcStr), AllocError>
     Ok((iter_var, iter_var2, accu_var))
 }
 
-/// Takes one of the nodes that are left; refuses if there is none.
+// Takes one of the nodes that are left; refuses if there is none.
 fn take_node(left: &mut u32) -> Result<(), Refusal>
     ensures found { OnOk result (left.new + 1 ≡ left.old) }
     ensures fault { IfErr result (λ e. (left.old ≡ 0) × (e ≡ TooLarge)) }

@@ -37,7 +37,7 @@ pub(crate) fn read_reference(alloc: Global, parts: &[&[u8]]) -> Result<Reference
     reference_of(alloc, &fields)
 }
 
-/// The reference that the fields mean. The ids of overloads are read, and not kept.
+// The reference that the fields mean. The ids of overloads are read, and not kept.
 fn reference_of(alloc: Global, fields: &[Field<'_>]) -> Result<Reference, Refusal>
     ensures found { IfOk result (λ reference. ReferenceSays (map field_view fields.now) (reference_view reference)) }
     ensures fault { IfErr result (MemoryOr (ValuesFault Never ReferenceWrong (map field_view fields.now))) }
@@ -49,7 +49,7 @@ fn reference_of(alloc: Global, fields: &[Field<'_>]) -> Result<Reference, Refusa
     Ok(Reference { name, value })
 }
 
-/// Refuses ids of overloads if one is not UTF-8.
+// Refuses ids of overloads if one is not UTF-8.
 fn require_ids(alloc: Global, fields: &[Field<'_>]) -> Result<(), Refusal>
     ensures found { OnOk result (AllByRecursion IsUtf8 (payloads reference_field.overload_id (map field_view fields.now))) }
     ensures fault { IfErr result (MemoryOr (λ e. (text : List ℕ)
@@ -59,7 +59,7 @@ fn require_ids(alloc: Global, fields: &[Field<'_>]) -> Result<(), Refusal>
     require_texts(&ids)
 }
 
-/// The value that the fields mean; none if there is no field of it.
+// The value that the fields mean; none if there is no field of it.
 fn value_of(alloc: Global, fields: &[Field<'_>]) -> Result<Option<Constant>, Refusal>
     ensures found { IfOk result (λ value.
         IsOptional IsConstant reference_field.value (map field_view fields.now) (option_map constant_view value)) }
@@ -72,7 +72,7 @@ fn value_of(alloc: Global, fields: &[Field<'_>]) -> Result<Option<Constant>, Ref
     Ok(Some(read_constant(alloc, &parts)?))
 }
 
-/// A copy of a name; none if it is empty, as the names of functions are.
+// A copy of a name; none if it is empty, as the names of functions are.
 fn kept_name(alloc: Global, name: &str) -> Result<Option<ArcStr>, AllocError>
     ensures { IfOk result (λ kept. name_view kept ≡ points_of name.now) }
 {
@@ -82,7 +82,7 @@ fn kept_name(alloc: Global, name: &str) -> Result<Option<ArcStr>, AllocError>
     Ok(Some(ArcStr::from_str(alloc, name)?))
 }
 
-/// Refuses payloads if one is not UTF-8.
+// Refuses payloads if one is not UTF-8.
 fn require_texts(payloads: &[&[u8]]) -> Result<(), Refusal>
     ensures found { OnOk result (AllByRecursion IsUtf8 (parts_view payloads.now)) }
     ensures fault { IfErr result (λ e. (text : List ℕ) × Contains (parts_view payloads.now) text × Utf8Fault text e) }

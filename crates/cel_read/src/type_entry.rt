@@ -27,7 +27,7 @@ pub(crate) fn read_type(alloc: Global, parts: &[&[u8]], depth: u32) -> Result<Ty
     read_inner(alloc, node, depth - 1)
 }
 
-/// Reads the types inside, which may have `depth` levels, and makes the whole type.
+// Reads the types inside, which may have `depth` levels, and makes the whole type.
 #[cycle(type_entry)]
 fn read_inner(alloc: Global, node: TypeNode<'_>, depth: u32) -> Result<TypeEntry, Refusal>
     ensures found { IfOk result (λ entry.
@@ -41,7 +41,7 @@ fn read_inner(alloc: Global, node: TypeNode<'_>, depth: u32) -> Result<TypeEntry
     }
 }
 
-/// Reads the type of a list's items.
+// Reads the type of a list's items.
 #[cycle(type_entry)]
 #[inline(always)]
 fn read_list(alloc: Global, elem: &Payloads<'_>, depth: u32) -> Result<TypeEntry, Refusal>
@@ -53,7 +53,7 @@ fn read_list(alloc: Global, elem: &Payloads<'_>, depth: u32) -> Result<TypeEntry
     Ok(list_entry(alloc, item)?)
 }
 
-/// Reads the types of a map's keys and values.
+// Reads the types of a map's keys and values.
 #[cycle(type_entry)]
 #[inline(always)]
 fn read_map(
@@ -72,7 +72,7 @@ fn read_map(
     Ok(map_entry(alloc, keys, values)?)
 }
 
-/// A list of items of this type.
+// A list of items of this type.
 fn list_entry(alloc: Global, item: TypeEntry) -> Result<TypeEntry, AllocError>
     ensures { IfOk result (λ entry. type_entry_view entry ≡ list_entry (type_entry_view item)) }
 {
@@ -82,7 +82,7 @@ fn list_entry(alloc: Global, item: TypeEntry) -> Result<TypeEntry, AllocError>
     }
 }
 
-/// A map with keys and values of these types.
+// A map with keys and values of these types.
 fn map_entry(alloc: Global, keys: TypeEntry, values: TypeEntry) -> Result<TypeEntry, AllocError>
     ensures { IfOk result (λ entry. type_entry_view entry ≡ map_entry (type_entry_view keys) (type_entry_view values)) }
 {

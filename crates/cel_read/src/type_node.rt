@@ -42,15 +42,15 @@ const MESSAGE_TYPE: u32 = 9;
 
 const TYPE_PARAM: u32 = 10;
 
-/// The part of a ListType.
+// The part of a ListType.
 const ELEM: u32 = 1;
 
-/// The parts of a MapType.
+// The parts of a MapType.
 const KEY: u32 = 1;
 
 const VALUE: u32 = 2;
 
-/// The members of the oneof: a Type has no other fields.
+// The members of the oneof: a Type has no other fields.
 static TYPE: [Key; 10] = keys![
     Len DYN, Varint NULL, Varint PRIMITIVE, Varint WRAPPER, Varint WELL_KNOWN, Len LIST_TYPE,
     Len MAP_TYPE, Len FUNCTION, Len MESSAGE_TYPE, Len TYPE_PARAM
@@ -74,7 +74,7 @@ pub(crate) enum TypeNode<'a> {
     },
 }
 
-/// The last member of a Type, which determines the type.
+// The last member of a Type, which determines the type.
 #[derive(Clone, Copy, Debug)]
 struct LastKind {
     kind: TypeKind,
@@ -90,7 +90,7 @@ pub(crate) fn read_type_node<'a>(alloc: Global, parts: &[&'a [u8]]) -> Result<Ty
     type_of(alloc, &fields)
 }
 
-/// The type that the fields mean.
+// The type that the fields mean.
 fn type_of<'a>(alloc: Global, fields: &[Field<'a>]) -> Result<TypeNode<'a>, Refusal>
     ensures found { IfOk result (λ node.
         OneofSays type_kinds IsOfOtherKind TypeSays (map field_view fields.now) (type_node_view node)) }
@@ -104,7 +104,7 @@ fn type_of<'a>(alloc: Global, fields: &[Field<'a>]) -> Result<TypeNode<'a>, Refu
     type_in(alloc, last, &run)
 }
 
-/// The last member of a Type's fields; `None` if there is none, or if it is not supported.
+// The last member of a Type's fields; `None` if there is none, or if it is not supported.
 fn last_kind(fields: &[Field<'_>]) -> Option<LastKind>
     ensures { MatchOption result
         (MatchOption (last_number type_keys (map field_view fields.now)) (Unit {0}) (λ n. member_in type_kinds n ≡ None))
@@ -116,7 +116,7 @@ fn last_kind(fields: &[Field<'_>]) -> Option<LastKind>
     Some(LastKind { kind, number })
 }
 
-/// The member of this number; `None` if it is not supported.
+// The member of this number; `None` if it is not supported.
 fn kind_at(number: u32) -> Option<TypeKind>
     ensures { result ≡ member_in type_kinds number }
 {
@@ -129,7 +129,7 @@ fn kind_at(number: u32) -> Option<TypeKind>
     }
 }
 
-/// The type that the last member's run means.
+// The type that the last member's run means.
 fn type_in<'a>(alloc: Global, last: LastKind, run: &[Field<'a>]) -> Result<TypeNode<'a>, Refusal>
     ensures found { IfOk result (λ node.
         TypeSays last.kind last.number (map field_view run.now) (type_node_view node)) }
@@ -149,7 +149,7 @@ fn type_in<'a>(alloc: Global, last: LastKind, run: &[Field<'a>]) -> Result<TypeN
     }
 }
 
-/// The primitive type of this number.
+// The primitive type of this number.
 fn primitive(number: u32) -> Result<TypeEntry, Refusal>
     ensures found { IfOk result (λ entry. primitive_of number ≡ Some (type_entry_view entry)) }
     ensures fault { IfErr result (λ e. (primitive_of number ≡ None) × (e ≡ OutOfRange)) }
@@ -165,7 +165,7 @@ fn primitive(number: u32) -> Result<TypeEntry, Refusal>
     }
 }
 
-/// Reads a ListType from its parts.
+// Reads a ListType from its parts.
 fn read_list_type<'a>(alloc: Global, parts: &[&'a [u8]]) -> Result<TypeNode<'a>, Refusal>
     ensures found { IfOk result (λ node. Reads list_type_keys ListTypeSays (parts_view parts.now) (type_node_view node)) }
     ensures fault { IfErr result (MemoryOr (ReadFault list_type_keys Never ListTypeWrong (parts_view parts.now))) }
@@ -174,7 +174,7 @@ fn read_list_type<'a>(alloc: Global, parts: &[&'a [u8]]) -> Result<TypeNode<'a>,
     list_type_of(alloc, &fields)
 }
 
-/// The list type that the fields mean.
+// The list type that the fields mean.
 fn list_type_of<'a>(alloc: Global, fields: &[Field<'a>]) -> Result<TypeNode<'a>, Refusal>
     ensures found { IfOk result (λ node. ListTypeSays (map field_view fields.now) (type_node_view node)) }
     ensures fault { IfErr result (MemoryOr (ValuesFault Never ListTypeWrong (map field_view fields.now))) }
@@ -184,7 +184,7 @@ fn list_type_of<'a>(alloc: Global, fields: &[Field<'a>]) -> Result<TypeNode<'a>,
     Ok(TypeNode::List { elem })
 }
 
-/// Reads a MapType from its parts.
+// Reads a MapType from its parts.
 fn read_map_type<'a>(alloc: Global, parts: &[&'a [u8]]) -> Result<TypeNode<'a>, Refusal>
     ensures found { IfOk result (λ node. Reads map_type_keys MapTypeSays (parts_view parts.now) (type_node_view node)) }
     ensures fault { IfErr result (MemoryOr (ReadFault map_type_keys Never MapTypeWrong (parts_view parts.now))) }
@@ -193,7 +193,7 @@ fn read_map_type<'a>(alloc: Global, parts: &[&'a [u8]]) -> Result<TypeNode<'a>, 
     map_type_of(alloc, &fields)
 }
 
-/// The map type that the fields mean.
+// The map type that the fields mean.
 fn map_type_of<'a>(alloc: Global, fields: &[Field<'a>]) -> Result<TypeNode<'a>, Refusal>
     ensures found { IfOk result (λ node. MapTypeSays (map field_view fields.now) (type_node_view node)) }
     ensures fault { IfErr result (MemoryOr (ValuesFault Never MapTypeWrong (map field_view fields.now))) }
@@ -204,7 +204,7 @@ fn map_type_of<'a>(alloc: Global, fields: &[Field<'a>]) -> Result<TypeNode<'a>, 
     Ok(TypeNode::Map { key, value })
 }
 
-/// Refuses a list or map type that lacks a required part.
+// Refuses a list or map type that lacks a required part.
 fn require_type(fields: &[Field<'_>], number: u32) -> Result<(), Refusal>
     ensures found { OnOk result (payloads number (map field_view fields.now) ≢ []) }
     ensures fault { IfErr result (λ e. (payloads number (map field_view fields.now) ≡ []) × (e ≡ OutOfRange)) }

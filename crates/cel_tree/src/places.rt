@@ -33,7 +33,7 @@ pub fn fault_of_entry(refusal: Refusal, id: i64) -> Fault
     Fault::at(refusal, 0).inside(ENTRY_KEY, position_of(id))
 }
 
-/// The id as a position: its bits as an unsigned number.
+// The id as a position: its bits as an unsigned number.
 fn position_of(id: i64) -> usize
     ensures { result ≡ cast_unsigned w64 id }
 {

@@ -11,13 +11,13 @@ use crate::help::{
 use clap::{Arg, ArgAction, Command, value_parser};
 use std::alloc::{AllocError, Global};
 
-/// The program's version, and the kit that proves it.
+// The program's version, and the kit that proves it.
 const VERSION: &str = "0.1.0, proved with rattle logic dac8208d650f15bf";
 
-/// The file of the settings of a server.
+// The file of the settings of a server.
 const SETTINGS_FILE: &str = "The settings of a server: one JSON object";
 
-/// The file of a configuration.
+// The file of a configuration.
 const CONFIGURATION_FILE: &str = "A configuration: one JSON object with node, cluster and filters";
 
 /// The program's command, with a subcommand for each job.
@@ -137,7 +137,7 @@ fn batch_arg<'a>(alloc: Global) -> Arg<'a>
         .help("Judge many heads: each line of standard input has one, as JSON")
 }
 
-/// The program's command without its subcommands.
+// The program's command without its subcommands.
 fn bare_command<'a>(alloc: Global) -> Command<'a>
     ensures { app_of result ≡ bare_app }
 {

@@ -66,7 +66,7 @@ pub(crate) fn control_words(
     }))
 }
 
-/// The files of the snapshots, if the words name them in one of the two ways.
+// The files of the snapshots, if the words name them in one of the two ways.
 fn snapshot_files(
     alloc: Global,
     matches: &ArgMatches<'_>,
@@ -81,8 +81,8 @@ fn snapshot_files(
     Ok(chosen_files(names, files, responses))
 }
 
-/// The files of snapshots: with names, or of responses. None if both or neither are given, or if not each snapshot has
-/// a file for each name.
+// The files of snapshots: with names, or of responses. None if both or neither are given, or if not each snapshot has
+// a file for each name.
 fn chosen_files(
     names: Option<Vec<String>>,
     files: Option<Vec<String>>,
@@ -108,7 +108,7 @@ fn chosen_files(
     Some(SnapshotFiles::Filters { names, files })
 }
 
-/// Whether so many files are one for each name, in each of some snapshots.
+// Whether so many files are one for each name, in each of some snapshots.
 fn are_grouped(names: usize, files: usize) -> bool
     ensures { IsTrue result ↔ AreGrouped names files }
 {

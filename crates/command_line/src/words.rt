@@ -17,7 +17,7 @@ use std::convert::AsStr;
 /// The greatest number of rounds of a proxy.
 pub(crate) const MOST_ROUNDS: u64 = 1_000_000;
 
-/// What is wrong with a number that is not allowed.
+// What is wrong with a number that is not allowed.
 const NUMBER_FAULT: &str =
     "a budget is a number from 1 to 100000000, visits are a number from 1 to 9223372036854775807, rounds are a number \
     from 0 to 1000000, and a connection is a number from 0 to 18446744073709551615";
@@ -139,7 +139,7 @@ pub fn read_words<S: AsStr>(alloc: Global, words: &[S]) -> Result<Job, Error>
     }
 }
 
-/// The error for words that the parser accepts but that name no job.
+// The error for words that the parser accepts but that name no job.
 fn value_fault(alloc: Global, matches: &ArgMatches<'_>) -> Result<Error, AllocError>
     ensures { IfOk result (λ e. kind_of e ≡ ErrorKind.ValueValidation) }
 {
@@ -151,7 +151,7 @@ fn value_fault(alloc: Global, matches: &ArgMatches<'_>) -> Result<Error, AllocEr
     }
 }
 
-/// The job of the subcommand that was found, if its values are present and allowed.
+// The job of the subcommand that was found, if its values are present and allowed.
 fn named_job(alloc: Global, matches: &ArgMatches<'_>) -> Result<Option<Job>, AllocError>
     ensures job { IfOk result (λ job. IfSome job (IsJobOfNamed (subcommand_rows_of matches.now))) }
     ensures none { IfOk result (λ job. IfNone job (NamesNoJob (subcommand_rows_of matches.now))) }
@@ -180,7 +180,7 @@ fn named_job(alloc: Global, matches: &ArgMatches<'_>) -> Result<Option<Job>, All
     }
 }
 
-/// The job of the subcommand `check`, if its values are present and its budget is allowed.
+// The job of the subcommand `check`, if its values are present and its budget is allowed.
 fn check_job(alloc: Global, matches: &ArgMatches<'_>) -> Result<Option<Job>, AllocError>
     ensures job { IfOk result (λ job. IfSome job (λ job. (subcommand_name job ≡ codes "check")
         × IsJobOfRows (rows_of (found_of matches.now)) job)) }
@@ -202,7 +202,7 @@ fn check_job(alloc: Global, matches: &ArgMatches<'_>) -> Result<Option<Job>, All
     })))
 }
 
-/// The job of the subcommand `judge`, if its values are present and its budget is allowed.
+// The job of the subcommand `judge`, if its values are present and its budget is allowed.
 fn judge_job(alloc: Global, matches: &ArgMatches<'_>) -> Result<Option<Job>, AllocError>
     ensures job { IfOk result (λ job. IfSome job (λ job. (subcommand_name job ≡ codes "judge")
         × IsJobOfRows (rows_of (found_of matches.now)) job)) }
@@ -238,7 +238,7 @@ fn judge_job(alloc: Global, matches: &ArgMatches<'_>) -> Result<Option<Job>, All
     })))
 }
 
-/// The budget that was given, if it is allowed.
+// The budget that was given, if it is allowed.
 fn budget_of(matches: &ArgMatches<'_>) -> Option<Budget>
     ensures budget { IfSome result (IsBudgetOf (rows_of (found_of matches.now))) }
     ensures none { IfNone result ((budget : Budget)
@@ -253,7 +253,7 @@ fn budget_of(matches: &ArgMatches<'_>) -> Option<Budget>
     Some(budget)
 }
 
-/// The job of the subcommand `check-config`, if its values are present.
+// The job of the subcommand `check-config`, if its values are present.
 fn check_config_job(alloc: Global, matches: &ArgMatches<'_>) -> Result<Option<Job>, AllocError>
     ensures job { IfOk result (λ job. IfSome job (λ job. (subcommand_name job ≡ codes "check-config")
         × IsJobOfRows (rows_of (found_of matches.now)) job)) }
@@ -266,7 +266,7 @@ fn check_config_job(alloc: Global, matches: &ArgMatches<'_>) -> Result<Option<Jo
     }
 }
 
-/// The job of the subcommand `control`, if its values are present and allowed.
+// The job of the subcommand `control`, if its values are present and allowed.
 fn control_job(alloc: Global, matches: &ArgMatches<'_>) -> Result<Option<Job>, AllocError>
     ensures job { IfOk result (λ job. IfSome job (λ job. (subcommand_name job ≡ codes "control")
         × IsJobOfRows (rows_of (found_of matches.now)) job)) }
@@ -279,7 +279,7 @@ fn control_job(alloc: Global, matches: &ArgMatches<'_>) -> Result<Option<Job>, A
     }
 }
 
-/// The job of the subcommand `replay`, if its values are present.
+// The job of the subcommand `replay`, if its values are present.
 fn replay_job(alloc: Global, matches: &ArgMatches<'_>) -> Result<Option<Job>, AllocError>
     ensures job { IfOk result (λ job. IfSome job (λ job. (subcommand_name job ≡ codes "replay")
         × IsJobOfRows (rows_of (found_of matches.now)) job)) }
@@ -295,7 +295,7 @@ fn replay_job(alloc: Global, matches: &ArgMatches<'_>) -> Result<Option<Job>, Al
     }
 }
 
-/// The value of `--connection`: the inner `None` if it was not given, the outer if it is no number.
+// The value of `--connection`: the inner `None` if it was not given, the outer if it is no number.
 fn connection_of(matches: &ArgMatches<'_>) -> Option<Option<u64>>
     ensures connection { IfSome result (IsConnectionOf (rows_of (found_of matches.now))) }
     ensures none { IfNone result ((connection : Option ℕ)
@@ -308,7 +308,7 @@ fn connection_of(matches: &ArgMatches<'_>) -> Option<Option<u64>>
     Some(Some(k))
 }
 
-/// The job of the subcommand `serve`, if its values are present.
+// The job of the subcommand `serve`, if its values are present.
 fn serve_job(alloc: Global, matches: &ArgMatches<'_>) -> Result<Option<Job>, AllocError>
     ensures job { IfOk result (λ job. IfSome job (λ job. (subcommand_name job ≡ codes "serve")
         × IsJobOfRows (rows_of (found_of matches.now)) job)) }
@@ -322,7 +322,7 @@ fn serve_job(alloc: Global, matches: &ArgMatches<'_>) -> Result<Option<Job>, All
     Ok(Some(Job::Serve(ServeWords { config, check })))
 }
 
-/// The job of the subcommand `proxy`, if its values are present and its number of rounds is allowed.
+// The job of the subcommand `proxy`, if its values are present and its number of rounds is allowed.
 fn proxy_job(alloc: Global, matches: &ArgMatches<'_>) -> Result<Option<Job>, AllocError>
     ensures job { IfOk result (λ job. IfSome job (λ job. (subcommand_name job ≡ codes "proxy")
         × IsJobOfRows (rows_of (found_of matches.now)) job)) }

@@ -46,7 +46,7 @@ pub(crate) fn covers(size: &ValueSize, other: &ValueSize) -> bool
     }
 }
 
-/// Which of two sizes has room for both; if neither has, their join.
+// Which of two sizes has room for both; if neither has, their join.
 #[derive(Drop)]
 enum Wider {
     Both,

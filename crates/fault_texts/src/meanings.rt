@@ -45,7 +45,7 @@ pub fn rule_of(fault: HeadFault) -> &'static str {
     }
 }
 
-/// The fault of the part of a head at which its parser stopped.
+// The fault of the part of a head at which its parser stopped.
 fn wrong_part(part: HeadPart) -> &'static str {
     match part {
         HeadPart::Method => "the method is not a token followed by a space",

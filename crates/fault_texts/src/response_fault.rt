@@ -28,7 +28,7 @@ pub fn fault_of<'a>(alloc: Global, refused: &Refused, config: &'a Config) -> Res
     }
 }
 
-/// No filter is known.
+// No filter is known.
 fn unknown<'a>() -> ResponseFault<'a> {
     ResponseFault {
         filter: None,

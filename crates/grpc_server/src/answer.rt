@@ -7,11 +7,11 @@ use hpack::Field;
 use http2::is_call;
 use std::alloc::{AllocError, Global};
 
-/// The path of the aggregated stream of xDS.
+// The path of the aggregated stream of xDS.
 const ADS: &str =
     "/envoy.service.discovery.v3.AggregatedDiscoveryService/StreamAggregatedResources";
 
-/// The path of the stream of extension configs.
+// The path of the stream of extension configs.
 const ECDS: &str =
     "/envoy.service.extension.v3.ExtensionConfigDiscoveryService/StreamExtensionConfigs";
 
@@ -27,7 +27,7 @@ pub enum Status {
 }
 
 impl Status {
-    /// The number of the status.
+    // The number of the status.
     fn text(self) -> &'static str
         ensures { result.now ≡ status_text self }
     {

@@ -6,20 +6,20 @@ use http2::{Fault, Server};
 use std::alloc::{AllocError, Global};
 use std::io::{self, ErrorKind, Read, Write};
 
-/// How many bytes are read from the client at once.
+// How many bytes are read from the client at once.
 const CHUNK: usize = 16_384;
 
-/// How often the client is read once its call is over.
+// How often the client is read once its call is over.
 const READS: u8 = 64;
 
-/// How far the answer is.
+// How far the answer is.
 #[derive(Clone, Copy, PartialEq, Eq)]
 enum Progress {
-    /// The request has not come.
+    // The request has not come.
     Waiting,
-    /// The answer has begun.
+    // The answer has begun.
     Begun,
-    /// The request is no call of a method that is served, and was refused.
+    // The request is no call of a method that is served, and was refused.
     Refused,
 }
 
@@ -195,7 +195,7 @@ impl<R: Read + Drop, W: Write + Drop> Call<R, W> {
     }
 }
 
-/// Whether fields were written. If not, memory ran out, or the call is over.
+// Whether fields were written. If not, memory ran out, or the call is over.
 fn written(done: Result<bool, Fault>) -> io::Result<()> {
     match done {
         Ok(true) => Ok(()),

@@ -7,7 +7,7 @@ use std::cell::RefCell;
 use std::io::{self, ErrorKind, Read, Write};
 use std::rc::Rc;
 
-/// A call that both ends share.
+// A call that both ends share.
 type Shared<R, W> = Rc<RefCell<Call<R, W>>, Global>;
 
 /// The end from which the client's data are read.

@@ -30,7 +30,7 @@ pub enum StatusCode {
 }
 
 impl StatusCode {
-    /// The number of the code.
+    // The number of the code.
     fn text(self) -> &'static str
         ensures { result.now ≡ code_text self }
     {
@@ -73,7 +73,7 @@ pub fn message_in(content: &[u8]) -> Result<&[u8], StatusCode>
     Err(StatusCode::Internal)
 }
 
-/// A message that is not compressed.
+// A message that is not compressed.
 fn plain(octets: &[u8]) -> Result<&[u8], StatusCode>
     ensures found { IfOk result (λ m. plain octets.now ≡ Ok m.now) }
     ensures fault { IfErr result (λ e. plain octets.now ≡ Err e) }

@@ -19,7 +19,7 @@ use std::sync::ArcStr;
 pub(crate) struct Client {
     pub(crate) method: String,
     pub(crate) target: String,
-    // the value of its Host field, if a field says it
+    /// The value of its Host field, if a field says it.
     pub(crate) host: Option<String>,
     pub(crate) conn: Conn,
 }

@@ -62,7 +62,7 @@ pub(crate) fn raise(window: u64, stream: u32, frame: &Frame) -> Option<u64>
     Some(sum)
 }
 
-/// The initial window after these settings.
+// The initial window after these settings.
 fn after_settings(window: u32, payload: &[u8]) -> u32
     ensures { result ≡ window_in window payload.now }
 {
@@ -83,7 +83,7 @@ pub(crate) fn behind(rest: &[u8]) -> &[u8]
     &rest[6..]
 }
 
-/// The initial window after the first of these settings.
+// The initial window after the first of these settings.
 fn entry(window: u32, rest: &[u8]) -> u32
     requires { 6 ≤ length rest.now }
     ensures { result ≡ window_first window rest.now }
@@ -104,7 +104,7 @@ pub(crate) fn after(window: u32, frame: &Frame) -> u32
     window
 }
 
-/// The eight bytes of a ping, as a number.
+// The eight bytes of a ping, as a number.
 fn mark(frame: &Frame) -> u64
     ensures { result ≡ mark_of frame.now.bytes.items }
 {

@@ -46,7 +46,7 @@ pub(crate) fn serve(
     }
 }
 
-/// Opens the call's stream, if it was not open and this is one.
+// Opens the call's stream, if it was not open and this is one.
 fn open(pipe: &mut Pipe, number: u32)
     ensures number { pipe.new.number ≡ opened_as pipe.old.number number }
     ensures rest { pipe.new.rest ≡ pipe.old.rest }
@@ -66,7 +66,7 @@ fn open(pipe: &mut Pipe, number: u32)
     pipe.open(number);
 }
 
-/// Acknowledges settings and a ping, and refuses a stream that was opened beside the call's.
+// Acknowledges settings and a ping, and refuses a stream that was opened beside the call's.
 fn answer(
     alloc: Global,
     pipe: &mut Pipe,

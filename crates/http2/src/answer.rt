@@ -21,7 +21,7 @@ pub(crate) fn value_of<'a>(fields: &'a [Field], name: &[u8]) -> Option<&'a [u8]>
     None
 }
 
-/// The number that a digit stands for.
+// The number that a digit stands for.
 fn digit_of(digit: u8) -> Option<u32>
     ensures { result ≡ digit_of digit }
 {
@@ -31,7 +31,7 @@ fn digit_of(digit: u8) -> Option<u32>
     Some(digit as u32 - 48)
 }
 
-/// The number of one to three digits.
+// The number of one to three digits.
 fn number_in(text: &[u8]) -> Option<u32>
     ensures { result ≡ number_in text.now }
 {
@@ -50,7 +50,7 @@ pub(crate) fn number_of(fields: &[Field], name: &[u8]) -> Option<u32>
     number_in(value_of(fields, name)?)
 }
 
-/// The status of HTTP that a value is: three digits.
+// The status of HTTP that a value is: three digits.
 fn status_in(text: &[u8]) -> Option<u32>
     ensures { result ≡ status_in text.now }
 {
@@ -85,7 +85,7 @@ pub(crate) fn is_grpc(fields: &[Field]) -> bool
     }
 }
 
-/// The grpc-status that a status of HTTP means.
+// The grpc-status that a status of HTTP means.
 fn meant_by(status: u32) -> u32
     ensures { result ≡ meant_by status }
 {
@@ -109,7 +109,7 @@ pub(crate) fn refusal_in(status: u32, fields: &[Field]) -> u32
     }
 }
 
-/// The number of these digits, if it is below 10^18.
+// The number of these digits, if it is below 10^18.
 fn decimal_in(text: &[u8]) -> Option<u64>
     ensures { result ≡ decimal_in text.now }
 {
@@ -128,7 +128,7 @@ fn decimal_in(text: &[u8]) -> Option<u64>
     Some(number)
 }
 
-/// Whether a content-length agrees with the one before it.
+// Whether a content-length agrees with the one before it.
 fn agrees(told: Option<u64>, next: Option<u64>) -> bool
     ensures { result ≡ agrees told next }
 {

@@ -7,7 +7,7 @@ use crate::accounts::behind;
 use crate::fault::{Code, Fault};
 use crate::frame::{Frame, byte, word};
 
-/// Whether a flag is set.
+// Whether a flag is set.
 fn has(flags: u8, mask: u8) -> bool
     requires { 0 < mask }
     ensures { result ≡ has_flag mask flags }
@@ -43,7 +43,7 @@ pub(crate) fn check(pushes: u32, frame: &Frame) -> Result<(), Fault>
     }
 }
 
-/// Refuses padding that is longer than what is left.
+// Refuses padding that is longer than what is left.
 fn check_padding(flags: u8, payload: &[u8]) -> Result<(), Fault>
     ensures { error_of result ≡ wrong_padding flags payload.now }
 {
@@ -68,7 +68,7 @@ fn check_data(flags: u8, on_stream: bool, payload: &[u8]) -> Result<(), Fault>
     check_padding(flags, payload)
 }
 
-/// How many bytes stand before the block of HEADERS: the length of padding, and a priority.
+// How many bytes stand before the block of HEADERS: the length of padding, and a priority.
 fn before_block(flags: u8) -> usize
     ensures value { result ≡ before_block flags }
     ensures few { result ≤ 6 }
@@ -78,7 +78,7 @@ fn before_block(flags: u8) -> usize
     padded + first
 }
 
-/// How many bytes of padding HEADERS say that they have.
+// How many bytes of padding HEADERS say that they have.
 fn padding_in(flags: u8, payload: &[u8]) -> usize
     ensures { result ≡ padding_in flags payload.now }
 {
@@ -146,7 +146,7 @@ fn check_settings(pushes: u32, flags: u8, on_stream: bool, payload: &[u8]) -> Re
     check_entries(pushes, payload)
 }
 
-/// The first setting that is wrong.
+// The first setting that is wrong.
 fn check_entries(pushes: u32, payload: &[u8]) -> Result<(), Fault>
     ensures { error_of result ≡ wrong_entries pushes payload.now }
 {
@@ -162,7 +162,7 @@ fn check_entries(pushes: u32, payload: &[u8]) -> Result<(), Fault>
     Ok(())
 }
 
-/// What a peer's setting may be.
+// What a peer's setting may be.
 fn check_setting(pushes: u32, number: u32, value: u32) -> Result<(), Fault>
     ensures { error_of result ≡ wrong_setting pushes number value }
 {

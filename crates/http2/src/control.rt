@@ -111,7 +111,7 @@ impl Control {
         self.say(alloc, frame)
     }
 
-    /// Whether the frame may not come now.
+    // Whether the frame may not come now.
     fn is_misplaced(&self, frame: &Frame) -> bool
         ensures { result ≡ is_misplaced (control_view self.now) frame.now.bytes.items }
     {
@@ -126,7 +126,7 @@ impl Control {
         frame.stream() > 1 && kind != PRIORITY && kind <= CONTINUATION
     }
 
-    /// The peer's settings have come.
+    // The peer's settings have come.
     fn settle(&mut self)
         ensures settled { control_view self.new ≡ settled (control_view self.old) }
         ensures decoder { self.new.decoder ≡ self.old.decoder }
@@ -136,7 +136,7 @@ impl Control {
         }
     }
 
-    /// Does what a frame without a fault says.
+    // Does what a frame without a fault says.
     fn say(&mut self, alloc: Global, frame: &Frame) -> Result<Option<End>, AllocError>
         requires { self.old.decoder.alive ≡ true }
         ensures says { IfOk result (λ over. Says (control_view self.old) frame.now.bytes.items
@@ -158,7 +158,7 @@ impl Control {
         }
     }
 
-    /// A part of a header block came, which weighs so much more than its octets.
+    // A part of a header block came, which weighs so much more than its octets.
     fn gather(
         &mut self,
         alloc: Global,
@@ -183,7 +183,7 @@ impl Control {
         self.read_block(alloc)
     }
 
-    /// The header block is whole.
+    // The header block is whole.
     fn read_block(&mut self, alloc: Global) -> Result<Option<End>, AllocError>
         requires alive { self.old.decoder.alive ≡ true }
         requires light { self.old.weight ≤ 32768 }
@@ -202,7 +202,7 @@ impl Control {
         }
     }
 
-    /// The fields of a header block came.
+    // The fields of a header block came.
     fn fields_came(
         &mut self,
         alloc: Global,
@@ -222,7 +222,7 @@ impl Control {
         self.status_came(alloc, fields)
     }
 
-    /// Fields came that end the call by its status.
+    // Fields came that end the call by its status.
     fn status_came(&mut self, alloc: Global, fields: &[Field]) -> Result<Option<End>, AllocError>
         ensures next { IfOk result (λ over. next_of over (control_view self.new)
             ≡ status_came (control_view self.old) (map line_of fields.now)) }
@@ -235,7 +235,7 @@ impl Control {
         Ok(Some(End::Status(number_of(fields, b"grpc-status".as_slice()))))
     }
 
-    /// Fields came before the answer's data.
+    // Fields came before the answer's data.
     fn answer_came(
         &mut self,
         alloc: Global,
@@ -266,7 +266,7 @@ impl Control {
         self.answer_began(alloc, fields, last)
     }
 
-    /// The answer begins with these fields.
+    // The answer begins with these fields.
     fn answer_began(
         &mut self,
         alloc: Global,
@@ -288,7 +288,7 @@ impl Control {
         Ok(None)
     }
 
-    /// Data came, so many octets.
+    // Data came, so many octets.
     fn content_came(&mut self, count: usize, last: bool) -> Option<End>
         ensures next { next_of result (control_view self.new) ≡ content_came (control_view self.old) last count }
         ensures decoder { self.new.decoder ≡ self.old.decoder }

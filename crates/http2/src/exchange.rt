@@ -21,24 +21,24 @@ pub(crate) const MOST_RESETS: u32 = 100;
 /// What a server of unary calls keeps of its client's frames.
 #[derive(Debug, Drop)]
 pub(crate) struct Exchange {
-    // whether the client's settings came
+    /// Whether the client's settings came.
     pub(crate) settled: bool,
-    // the stream of the header block that is not whole, or 0, and whether the stream ends after it; the block
+    /// The stream of the header block that is not whole, or 0, and whether the stream ends after it; the block.
     pub(crate) unfinished: u32,
     pub(crate) ends: bool,
     pub(crate) block: Gathering,
-    // the greatest stream that the client opened, and those that are open
+    /// The greatest stream that the client opened, and those that are open.
     pub(crate) last: u32,
     pub(crate) streams: Streams,
-    // how many ended by a reset more than by an answer
+    /// How many ended by a reset more than by an answer.
     pub(crate) resets: u32,
-    // the client's initial window of a stream; what it added to the connection's, and how much of that was used
+    /// The client's initial window of a stream; what it added to the connection's, and how much of that was used.
     pub(crate) window: u32,
     pub(crate) raised: u64,
     pub(crate) used: u64,
-    // how much the client may still send
+    /// How much the client may still send.
     pub(crate) credit: usize,
-    // the most octets of a request's content
+    /// The most octets of a request's content.
     pub(crate) most: usize,
     ghost sum: { raised < 2 ^ 63 },
     ghost few: { credit ≤ 1048581 },
@@ -89,7 +89,7 @@ impl Exchange {
         }
     }
 
-    /// Does what a frame without a fault says, unless it may not come now.
+    // Does what a frame without a fault says, unless it may not come now.
     fn place(&mut self, alloc: Global, frame: &Frame) -> Result<News, AllocError>
         requires alive { self.old.block.decoder.alive ≡ true }
         requires sound { fault_of_client frame.now.bytes.items ≡ None }
@@ -104,7 +104,7 @@ impl Exchange {
         self.say(alloc, frame)
     }
 
-    /// A frame has a fault that ends its stream.
+    // A frame has a fault that ends its stream.
     fn fail(&mut self, frame: &Frame, code: Code) -> News
         ensures turn { turn_of result (exchange_view self.new)
             ≡ (if is_misplaced (exchange_view self.old) frame.now.bytes.items then breaks Code.Protocol
@@ -118,7 +118,7 @@ impl Exchange {
         self.failed(frame.stream(), code)
     }
 
-    /// A fault ends the stream, if it is open.
+    // A fault ends the stream, if it is open.
     fn failed(&mut self, number: u32, code: Code) -> News
         ensures turn { turn_of result (exchange_view self.new) ≡ failed (exchange_view self.old) number code }
         ensures block { self.new.block ≡ self.old.block }
@@ -132,14 +132,14 @@ impl Exchange {
         }
     }
 
-    /// Whether the client has not opened the stream.
+    // Whether the client has not opened the stream.
     fn is_idle(&self, stream: u32) -> bool
         ensures { result ≡ is_idle (exchange_view self.now) stream }
     {
         stream != 0 && (stream % 2 == 0 || stream > self.last)
     }
 
-    /// Whether the frame cannot be on its stream.
+    // Whether the frame cannot be on its stream.
     fn is_astray(&self, frame: &Frame) -> bool
         ensures { result ≡ is_astray (exchange_view self.now) frame.now.bytes.items }
     {
@@ -150,7 +150,7 @@ impl Exchange {
         }
     }
 
-    /// Whether the frame may not come now.
+    // Whether the frame may not come now.
     fn is_misplaced(&self, frame: &Frame) -> bool
         ensures { result ≡ is_misplaced (exchange_view self.now) frame.now.bytes.items }
     {
@@ -164,7 +164,7 @@ impl Exchange {
         kind != CONTINUATION || frame.stream() != self.unfinished
     }
 
-    /// Does what a frame without a fault says.
+    // Does what a frame without a fault says.
     fn say(&mut self, alloc: Global, frame: &Frame) -> Result<News, AllocError>
         requires alive { self.old.block.decoder.alive ≡ true }
         ensures says { IfOk result (λ news. Says (exchange_view self.old) frame.now.bytes.items
@@ -198,7 +198,7 @@ impl Exchange {
         News::resets(number, code)
     }
 
-    /// A header block begins.
+    // A header block begins.
     fn begin(&mut self, frame: &Frame)
         ensures begun { exchange_view self.new ≡ begun (exchange_view self.old) frame.now.bytes.items }
         ensures alive { self.new.block.decoder ≡ self.old.block.decoder }
@@ -208,7 +208,7 @@ impl Exchange {
         self.block.begin();
     }
 
-    /// A part of a header block came, which weighs so much more than its octets.
+    // A part of a header block came, which weighs so much more than its octets.
     fn gather(
         &mut self,
         alloc: Global,
@@ -232,7 +232,7 @@ impl Exchange {
         }
     }
 
-    /// The client reset a stream.
+    // The client reset a stream.
     fn reset_came(&mut self, number: u32) -> News
         ensures turn { turn_of result (exchange_view self.new)
             ≡ reset_came (beside (exchange_view self.old) number) (find number (exchange_view self.old).streams) }
@@ -248,7 +248,7 @@ impl Exchange {
         News::Quiet
     }
 
-    /// Settings came.
+    // Settings came.
     fn settings_came(&mut self, frame: &Frame) -> News
         ensures turn { turn_of result (exchange_view self.new)
             ≡ settings_came (exchange_view self.old) (window_after (exchange_view self.old).window frame.now.bytes.items) }

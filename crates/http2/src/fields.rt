@@ -6,14 +6,14 @@ ghost use Rattle.http2.specs.Fields.{is_in_name, all_in_name, is_name, is_in_val
 
 use hpack::Field;
 
-/// Whether an octet may stand in a name.
+// Whether an octet may stand in a name.
 fn is_in_name(byte: u8) -> bool
     ensures { result ≡ is_in_name byte }
 {
     byte >= 33 && byte <= 126 && byte != 58 && (byte < 65 || byte > 90)
 }
 
-/// Whether all octets may.
+// Whether all octets may.
 fn all_in_name(name: &[u8]) -> bool
     ensures { result ≡ all_in_name name.now }
 {
@@ -27,7 +27,7 @@ fn all_in_name(name: &[u8]) -> bool
     true
 }
 
-/// Whether a field may have this name.
+// Whether a field may have this name.
 fn is_name(name: &[u8]) -> bool
     ensures { result ≡ is_name name.now }
 {
@@ -37,14 +37,14 @@ fn is_name(name: &[u8]) -> bool
     }
 }
 
-/// Whether an octet may stand in a value.
+// Whether an octet may stand in a value.
 fn is_in_value(byte: u8) -> bool
     ensures { result ≡ is_in_value byte }
 {
     byte != 0 && byte != 10 && byte != 13
 }
 
-/// Whether all octets may.
+// Whether all octets may.
 fn all_in_value(value: &[u8]) -> bool
     ensures { result ≡ all_in_value value.now }
 {
@@ -58,14 +58,14 @@ fn all_in_value(value: &[u8]) -> bool
     true
 }
 
-/// Whether an octet is a space or a tab.
+// Whether an octet is a space or a tab.
 fn is_blank(byte: u8) -> bool
     ensures { result ≡ is_blank byte }
 {
     byte == 32 || byte == 9
 }
 
-/// Whether the first octet is one.
+// Whether the first octet is one.
 fn begins_blank(value: &[u8]) -> bool
     ensures { result ≡ begins_blank value.now }
 {
@@ -75,7 +75,7 @@ fn begins_blank(value: &[u8]) -> bool
     }
 }
 
-/// Whether the last octet is one.
+// Whether the last octet is one.
 fn ends_blank(value: &[u8]) -> bool
     ensures { result ≡ ends_blank false value.now }
 {
@@ -95,7 +95,7 @@ pub(crate) fn is_value(value: &[u8]) -> bool
     all_in_value(value) && !begins_blank(value) && !ends_blank(value)
 }
 
-/// Whether the field of this name is about a connection of HTTP/1.1.
+// Whether the field of this name is about a connection of HTTP/1.1.
 fn is_of_connection(name: &[u8]) -> bool
     ensures { result ≡ is_of_connection name.now }
 {

@@ -109,7 +109,7 @@ impl Frame {
     }
 }
 
-/// The bytes without their padding, whose length is the first of them. There are none if that is too long.
+// The bytes without their padding, whose length is the first of them. There are none if that is too long.
 fn unpadded(payload: &[u8]) -> &[u8]
     ensures { result.now ≡ unpadded payload.now }
 {

@@ -89,7 +89,7 @@ impl Gathering {
         self.read(alloc)
     }
 
-    /// The block is whole.
+    // The block is whole.
     fn read(&mut self, alloc: Global) -> Result<Progress, AllocError>
         requires alive { self.old.decoder.alive ≡ true }
         requires light { self.old.weight ≤ 32768 }

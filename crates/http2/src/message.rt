@@ -9,7 +9,7 @@ use crate::answer::value_of;
 use hpack::Field;
 use std::alloc::{AllocError, Global};
 
-/// The most octets of a message that are kept.
+// The most octets of a message that are kept.
 const MOST_TEXT: usize = 1_024;
 
 /// What grpc-message told: its first octets, and how many more there were.
@@ -19,14 +19,14 @@ pub(crate) struct Message {
     pub(crate) cut: usize,
 }
 
-/// Whether an octet is a digit of base 16.
+// Whether an octet is a digit of base 16.
 fn is_hex(digit: u8) -> bool
     ensures { result ≡ is_hex digit }
 {
     (digit >= 48 && digit < 58) || (digit >= 65 && digit < 71) || (digit >= 97 && digit < 103)
 }
 
-/// The value of a digit of base 16.
+// The value of a digit of base 16.
 fn hex_of(digit: u8) -> u8
     requires { is_hex digit ≡ true }
     ensures value { result ≡ hex_of digit }
@@ -41,7 +41,7 @@ fn hex_of(digit: u8) -> u8
     digit - 87
 }
 
-/// The octet that the first three stand for, if they are a code.
+// The octet that the first three stand for, if they are a code.
 fn coded(text: &[u8]) -> Option<u8>
     ensures code { IfSome result (λ octet. (3 ≤ length text.now) × (decoded text.now ≡ octet ∷ decoded (drop 3 text.now))) }
     ensures plain { (byte : ℕ) (rest : List ℕ) → result ≡ None → text.now ≡ byte ∷ rest
@@ -58,7 +58,7 @@ fn coded(text: &[u8]) -> Option<u8>
     }
 }
 
-/// The octets that a value stands for.
+// The octets that a value stands for.
 fn decoded(alloc: Global, value: &[u8]) -> Result<Vec<u8>, AllocError>
     ensures { IfOk result (λ text. text.items ≡ decoded value.now) }
 {

@@ -9,7 +9,7 @@ use crate::answer::{is_grpc, value_of};
 use crate::fields::{is_plain, is_value};
 use hpack::Field;
 
-/// How many fields have this name.
+// How many fields have this name.
 fn count_of(fields: &[Field], name: &[u8]) -> usize
     ensures { result ≡ count_of name.now (map line_of fields.now) }
 {
@@ -24,7 +24,7 @@ fn count_of(fields: &[Field], name: &[u8]) -> usize
     count
 }
 
-/// Whether the name is that of a pseudo-field of a request.
+// Whether the name is that of a pseudo-field of a request.
 fn is_pseudo(name: &[u8]) -> bool
     ensures { result ≡ is_pseudo name.now }
 {
@@ -34,7 +34,7 @@ fn is_pseudo(name: &[u8]) -> bool
         || name == b":authority".as_slice()
 }
 
-/// Whether the field may be behind them.
+// Whether the field may be behind them.
 fn is_allowed(field: &Field) -> bool
     ensures { result ≡ is_allowed (line_of field.now) }
 {
@@ -44,7 +44,7 @@ fn is_allowed(field: &Field) -> bool
     is_plain(field)
 }
 
-/// Whether each field may.
+// Whether each field may.
 fn are_allowed(fields: &[Field]) -> bool
     ensures { result ≡ are_allowed (map line_of fields.now) }
 {
@@ -58,7 +58,7 @@ fn are_allowed(fields: &[Field]) -> bool
     true
 }
 
-/// Whether the pseudo-fields are in front, each with a value that a field may have.
+// Whether the pseudo-fields are in front, each with a value that a field may have.
 fn are_in_order(fields: &[Field]) -> bool
     ensures { result ≡ are_in_order (map line_of fields.now) }
 {
@@ -75,7 +75,7 @@ fn are_in_order(fields: &[Field]) -> bool
     true
 }
 
-/// Whether a value that is there has octets.
+// Whether a value that is there has octets.
 fn has_octets(value: Option<&[u8]>) -> bool
     ensures { result ≡ has_octets (option_map (λ v. v.now) value.entry) }
 {
@@ -98,7 +98,7 @@ pub(crate) fn is_request(fields: &[Field]) -> bool
         && are_in_order(fields)
 }
 
-/// Whether a value is this text.
+// Whether a value is this text.
 fn is_text(value: Option<&[u8]>, text: &[u8]) -> bool
     ensures { result ≡ is_text (option_map (λ v. v.now) value.entry) text.now }
 {

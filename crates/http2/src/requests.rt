@@ -45,7 +45,7 @@ impl Exchange {
         self.request_came(alloc, number, fields)
     }
 
-    /// The fields of a request came, on a new stream.
+    // The fields of a request came, on a new stream.
     fn request_came(
         &mut self,
         alloc: Global,
@@ -73,7 +73,7 @@ impl Exchange {
         self.opened(number, left, request)
     }
 
-    /// A well-formed request opens its stream.
+    // A well-formed request opens its stream.
     fn opened(
         &mut self,
         number: u32,
@@ -94,7 +94,7 @@ impl Exchange {
         Ok(News::Quiet)
     }
 
-    /// The last of a request came.
+    // The last of a request came.
     fn ended(
         &mut self,
         left: Option<u64>,
@@ -116,7 +116,7 @@ impl Exchange {
         }))
     }
 
-    /// Trailers came, on a stream that was taken out if it is open.
+    // Trailers came, on a stream that was taken out if it is open.
     fn trailers_came(
         &mut self,
         stream: Option<Stream>,
@@ -161,7 +161,7 @@ impl Exchange {
         }
     }
 
-    /// Content came on a stream that was taken out.
+    // Content came on a stream that was taken out.
     fn content_came(
         &mut self,
         stream: Stream,
@@ -187,7 +187,7 @@ impl Exchange {
         self.content_taken(stream, request, last)
     }
 
-    /// A request has more content.
+    // A request has more content.
     fn content_taken(
         &mut self,
         stream: Stream,
@@ -224,7 +224,7 @@ impl Exchange {
         }
     }
 
-    /// The connection's window is raised.
+    // The connection's window is raised.
     fn connection_raised(&mut self, frame: &Frame) -> News
         ensures turn { turn_of result (exchange_view self.new)
             ≡ connection_raised (exchange_view self.old) (increment_of 0 frame.now.bytes.items) }
@@ -240,7 +240,7 @@ impl Exchange {
         News::Quiet
     }
 
-    /// The window of a stream is, which was taken out.
+    // The window of a stream is, which was taken out.
     fn stream_raised(&mut self, stream: Stream, frame: &Frame) -> Result<News, AllocError>
         ensures turn { IfOk result (λ news. turn_of news (exchange_view self.new)
             ≡ stream_raised (exchange_view self.old) (Some (stream_view stream)) (increment_of (stream_of frame.now.bytes.items) frame.now.bytes.items)) }

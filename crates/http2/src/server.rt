@@ -80,7 +80,7 @@ impl Server {
         Ok(count)
     }
 
-    /// Takes bytes of the preface. Others end the connection.
+    // Takes bytes of the preface. Others end the connection.
     fn greet(&mut self, alloc: Global, bytes: &[u8]) -> usize
         requires open { self.old.over ≡ None }
         requires begins { self.old.greeted < 24 }
@@ -258,7 +258,7 @@ impl Server {
         self.over
     }
 
-    /// Looks at one frame after the other.
+    // Looks at one frame after the other.
     fn look_at_all(&mut self, alloc: Global)
         ensures stays { Stays self.old self.new }
     {
@@ -269,7 +269,7 @@ impl Server {
         }
     }
 
-    /// Looks at the next frame, if it is whole.
+    // Looks at the next frame, if it is whole.
     fn look(&mut self, alloc: Global) -> bool
         requires open { self.old.over ≡ None }
         requires waits { length self.old.pipe.out ≤ 65536 }
@@ -289,7 +289,7 @@ impl Server {
         }
     }
 
-    /// Gives windows back, unless too much waits or no stream is open. If memory runs out, the call is over.
+    // Gives windows back, unless too much waits or no stream is open. If memory runs out, the call is over.
     fn give_back(&mut self, alloc: Global)
         requires { self.old.over ≡ None }
         ensures stays { Stays self.old self.new }
@@ -305,8 +305,8 @@ impl Server {
         }
     }
 
-    /// Says why the connection ends, if there is memory for it and not too much waits. It names the call's stream as the last
-    /// that may have been served.
+    // Says why the connection ends, if there is memory for it and not too much waits. It names the call's stream as the last
+    // that may have been served.
     fn tell(&mut self, alloc: Global, fault: Fault)
         requires { is_some self.old.over ≡ true }
         ensures over { self.new.over ≡ self.old.over }

@@ -49,7 +49,7 @@ pub(crate) struct Serving {
     ghost refuses: { ForSome refused (λ n. n < 2147483648) },
 }
 
-/// The phase behind fields or data.
+// The phase behind fields or data.
 fn phase_behind(ends: bool) -> Phase
     ensures { result ≡ phase_behind ends }
 {
@@ -139,7 +139,7 @@ impl Serving {
         self.say(alloc, frame)
     }
 
-    /// Whether the peer has not opened the stream.
+    // Whether the peer has not opened the stream.
     fn is_idle(&self, stream: u32) -> bool
         ensures { result ≡ is_idle (serving_view self.now) stream }
     {
@@ -149,7 +149,7 @@ impl Serving {
         self.number == UNOPENED || stream % 2 == 0 || stream > self.last
     }
 
-    /// Whether the frame cannot be on its stream.
+    // Whether the frame cannot be on its stream.
     fn is_astray(&self, frame: &Frame) -> bool
         ensures { result ≡ is_astray (serving_view self.now) frame.now.bytes.items }
     {
@@ -160,7 +160,7 @@ impl Serving {
         }
     }
 
-    /// Whether the frame may not come now.
+    // Whether the frame may not come now.
     fn is_misplaced(&self, frame: &Frame) -> bool
         ensures { result ≡ is_misplaced (serving_view self.now) frame.now.bytes.items }
     {
@@ -174,7 +174,7 @@ impl Serving {
         kind != CONTINUATION || frame.stream() != self.unfinished
     }
 
-    /// The peer's settings have come.
+    // The peer's settings have come.
     fn settle(&mut self)
         ensures settled { serving_view self.new ≡ settled (serving_view self.old) }
         ensures block { self.new.block ≡ self.old.block }
@@ -185,7 +185,7 @@ impl Serving {
         }
     }
 
-    /// Does what a frame without a fault says.
+    // Does what a frame without a fault says.
     fn say(&mut self, alloc: Global, frame: &Frame) -> Result<Option<Over>, AllocError>
         requires alive { self.old.block.decoder.alive ≡ true }
         ensures says { IfOk result (λ over. Says (serving_view self.old) frame.now.bytes.items
@@ -204,7 +204,7 @@ impl Serving {
         }
     }
 
-    /// A header block begins.
+    // A header block begins.
     fn begin(&mut self, frame: &Frame)
         ensures begun { serving_view self.new ≡ begun (serving_view self.old) frame.now.bytes.items }
         ensures alive { self.new.block.decoder ≡ self.old.block.decoder }
@@ -214,7 +214,7 @@ impl Serving {
         self.block.begin();
     }
 
-    /// A part of a header block came, which weighs so much more than its octets.
+    // A part of a header block came, which weighs so much more than its octets.
     fn gather(
         &mut self,
         alloc: Global,
@@ -238,7 +238,7 @@ impl Serving {
         }
     }
 
-    /// The fields of a whole header block came.
+    // The fields of a whole header block came.
     fn fields_came(&mut self, stream: u32, fields: Option<Vec<Field>>) -> Option<Over>
         requires { stream < 2147483648 }
         ensures turn { turn_of result (serving_view self.new)
@@ -258,7 +258,7 @@ impl Serving {
         None
     }
 
-    /// The first fields came, on this stream.
+    // The first fields came, on this stream.
     fn request_came(&mut self, stream: u32, fields: Option<Vec<Field>>) -> Option<Over>
         ensures turn { turn_of result (serving_view self.new)
             ≡ request_came (serving_view self.old) stream (option_map lines_of fields) }
@@ -284,7 +284,7 @@ impl Serving {
         None
     }
 
-    /// Trailers of the call came.
+    // Trailers of the call came.
     fn trailers_came(&mut self, fields: Option<Vec<Field>>) -> Option<Over>
         ensures turn { turn_of result (serving_view self.new)
             ≡ trailers_came (serving_view self.old) (option_map lines_of fields) }
@@ -303,7 +303,7 @@ impl Serving {
         None
     }
 
-    /// Data came.
+    // Data came.
     fn data_came(&mut self, frame: &Frame) -> Option<Over>
         ensures turn { turn_of result (serving_view self.new) ≡ data_came (serving_view self.old) frame.now.bytes.items }
         ensures block { self.new.block ≡ self.old.block }
@@ -320,7 +320,7 @@ impl Serving {
         )
     }
 
-    /// Content of the call came, and this is still to come.
+    // Content of the call came, and this is still to come.
     fn content_came(&mut self, ends: bool, left: Option<Option<u64>>) -> Option<Over>
         ensures turn { turn_of result (serving_view self.new) ≡ content_came (serving_view self.old) ends left }
         ensures block { self.new.block ≡ self.old.block }
@@ -336,7 +336,7 @@ impl Serving {
         None
     }
 
-    /// The peer reset a stream.
+    // The peer reset a stream.
     fn reset_came(&self, frame: &Frame) -> Option<Over>
         ensures turn { turn_of result (serving_view self.now) ≡ reset_came (serving_view self.now) frame.now.bytes.items }
     {

@@ -22,12 +22,12 @@ pub struct Call {
 #[derive(Debug, Drop)]
 pub(crate) struct Stream {
     pub(crate) number: u32,
-    // its request until that is whole, and what is still to come of the content, if that was told
+    /// Its request until that is whole, and what is still to come of the content, if that was told.
     pub(crate) request: Option<Request>,
     pub(crate) left: Option<u64>,
-    // whether the answer's fields were written
+    /// Whether the answer's fields were written.
     pub(crate) begun: bool,
-    // what the client added to the stream's window, and how much of the window was used
+    /// What the client added to the stream's window, and how much of the window was used.
     pub(crate) raised: u64,
     pub(crate) used: u64,
     ghost small: { number < 2147483648 },

@@ -79,7 +79,7 @@ impl Streams {
     }
 }
 
-/// The place of the stream of a number.
+// The place of the stream of a number.
 fn place_of(streams: &[Stream], number: u32) -> Option<usize>
     ensures none { IfNone result ((find number (map stream_view streams.now) ≡ None)
         × (others number (map stream_view streams.now) ≡ map stream_view streams.now)) }
@@ -99,7 +99,7 @@ fn place_of(streams: &[Stream], number: u32) -> Option<usize>
     None
 }
 
-/// The stream of a number.
+// The stream of a number.
 fn stream_of<'a>(streams: &'a [Stream], number: u32) -> Option<&'a Stream>
     ensures found { option_map (λ s. stream_view s.now) result ≡ find number (map stream_view streams.now) }
     ensures number { IfSome result (λ s. s.now.number ≡ number) }
@@ -122,7 +122,7 @@ pub(crate) fn is_beyond(window: u32, raised: u64, used: u64) -> bool
     accounts::is_beyond(window, raised, used)
 }
 
-/// Whether no window is.
+// Whether no window is.
 fn are_within(window: u32, streams: &[Stream]) -> bool
     ensures { result ≡ are_within window (map stream_view streams.now) }
 {

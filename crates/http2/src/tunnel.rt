@@ -234,7 +234,7 @@ impl Tunnel {
         self.control.message_cut()
     }
 
-    /// Looks at one frame after the other.
+    // Looks at one frame after the other.
     fn look_at_all(&mut self, alloc: Global)
         ensures looked { (self.new.end ≢ None) ⊎ ((65536 < length self.new.pipe.out) ⊎ IsPart self.new.pipe.rest) }
         ensures keeps { Keeps self.old self.new }
@@ -246,7 +246,7 @@ impl Tunnel {
         }
     }
 
-    /// Looks at the next frame, if it is whole.
+    // Looks at the next frame, if it is whole.
     fn look(&mut self, alloc: Global) -> bool
         requires open { self.old.end ≡ None }
         requires waits { length self.old.pipe.out ≤ 65536 }
@@ -268,7 +268,7 @@ impl Tunnel {
         }
     }
 
-    /// Gives windows back, unless too much waits. If memory runs out, the call is over.
+    // Gives windows back, unless too much waits. If memory runs out, the call is over.
     fn give_back(&mut self, alloc: Global)
         requires { self.old.end ≡ None }
         ensures longer { length self.old.pipe.out ≤ length self.new.pipe.out }
@@ -284,7 +284,7 @@ impl Tunnel {
         }
     }
 
-    /// Says why the connection ends, if there is memory for it and not too much waits.
+    // Says why the connection ends, if there is memory for it and not too much waits.
     fn tell(&mut self, alloc: Global, fault: Fault)
         ensures end { self.new.end ≡ self.old.end }
         ensures rest { self.new.pipe.rest ≡ self.old.pipe.rest }

@@ -96,7 +96,7 @@ impl UnaryServer {
         Ok(count)
     }
 
-    /// Takes bytes of the preface, or later ones.
+    // Takes bytes of the preface, or later ones.
     fn hear(&mut self, alloc: Global, bytes: &[u8]) -> Result<usize, AllocError>
         requires open { self.old.over ≡ None }
         ensures count { IfOk result (λ n. n ≤ length bytes.now) }
@@ -114,7 +114,7 @@ impl UnaryServer {
         Ok(count)
     }
 
-    /// Takes bytes of the preface. Others are kept, and end the connection.
+    // Takes bytes of the preface. Others are kept, and end the connection.
     fn greet(&mut self, alloc: Global, bytes: &[u8]) -> Result<usize, AllocError>
         requires open { self.old.over ≡ None }
         requires begins { self.old.greeted < 24 }
@@ -316,7 +316,7 @@ impl UnaryServer {
         self.over
     }
 
-    /// Looks at one frame after the other.
+    // Looks at one frame after the other.
     fn look_at_all(&mut self, alloc: Global)
         ensures looked { HasLooked self.new }
         ensures continues { Continues (unary_view self.old) (unary_view self.new) }
@@ -331,7 +331,7 @@ impl UnaryServer {
         }
     }
 
-    /// Looks at the next frame, if it is whole.
+    // Looks at the next frame, if it is whole.
     fn look(&mut self, alloc: Global) -> bool
         requires open { self.old.over ≡ None }
         requires waits { length self.old.wire.out ≤ 65536 }
@@ -359,7 +359,7 @@ impl UnaryServer {
         }
     }
 
-    /// Gives the connection's window back, unless too much waits. If memory runs out, the connection is over.
+    // Gives the connection's window back, unless too much waits. If memory runs out, the connection is over.
     fn give_back(&mut self, alloc: Global)
         requires { self.old.over ≡ None }
         ensures longer { length self.old.wire.out ≤ length self.new.wire.out }
@@ -384,8 +384,8 @@ impl UnaryServer {
         }
     }
 
-    /// Says why the connection ends, if there is memory for it and not too much waits. It names the greatest stream that the
-    /// client opened as the last that may have been served.
+    // Says why the connection ends, if there is memory for it and not too much waits. It names the greatest stream that the
+    // client opened as the last that may have been served.
     fn tell(&mut self, alloc: Global, fault: Fault)
         requires { self.old.over ≡ Some fault }
         ensures over { self.new.over ≡ self.old.over }

@@ -48,7 +48,7 @@ pub(crate) fn serve(
     }
 }
 
-/// Memory ran out, or nothing is over.
+// Memory ran out, or nothing is over.
 fn end_of(done: Result<(), AllocError>) -> Option<Fault>
     ensures went { OnOk done (result ≡ None) }
     ensures spent { OnErr done (result ≡ Some Memory) }
@@ -59,7 +59,7 @@ fn end_of(done: Result<(), AllocError>) -> Option<Fault>
     }
 }
 
-/// Keeps a call that is whole.
+// Keeps a call that is whole.
 fn keep(calls: &mut Vec<Call>, call: Call) -> Result<(), AllocError>
     ensures few { length calls.new.items ≤ length calls.old.items + 1 }
     ensures kept { OnOk result (map call_view calls.new.items ≡ map call_view calls.old.items ++ call_view call ∷ []) }
@@ -68,7 +68,7 @@ fn keep(calls: &mut Vec<Call>, call: Call) -> Result<(), AllocError>
     Ok(())
 }
 
-/// Acknowledges settings and a ping.
+// Acknowledges settings and a ping.
 fn reply(alloc: Global, wire: &mut Wire, frame: &Frame) -> Result<(), AllocError>
     ensures rest { wire.new.rest ≡ wire.old.rest }
     ensures waits { length wire.new.out ≤ length wire.old.out + 16393 }
@@ -119,7 +119,7 @@ pub(crate) fn number_of(code: Code) -> u8
     }
 }
 
-/// Resets a stream.
+// Resets a stream.
 fn refuse(alloc: Global, wire: &mut Wire, reset: Reset) -> Result<(), AllocError>
     ensures rest { wire.new.rest ≡ wire.old.rest }
     ensures waits { length wire.new.out ≤ length wire.old.out + 13 }

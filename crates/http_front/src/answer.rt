@@ -40,7 +40,7 @@ pub struct Reply {
     pub is_head: bool,
 }
 
-/// A row of the table of answers.
+// A row of the table of answers.
 #[derive(Clone, Copy, Debug)]
 struct Row {
     status: u16,

@@ -45,7 +45,7 @@ pub fn request_of_parts(
     Ok(within(limits, request, parts.protocol))
 }
 
-/// The request, of this protocol; or the fault that the request is outside the limits.
+// The request, of this protocol; or the fault that the request is outside the limits.
 #[inline(always)]
 fn within(limits: &Limits, request: Request, protocol: Protocol) -> Result<Request, HeadFault>
     ensures found { IfOk result (λ r.

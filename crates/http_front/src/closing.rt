@@ -24,7 +24,7 @@ pub(crate) fn list_close(bytes: &[u8], fields: &[HeaderSpan]) -> bool
     false
 }
 
-/// Whether this is a Connection field that lists `close`.
+// Whether this is a Connection field that lists `close`.
 fn is_closing(name: &[u8], value: &[u8]) -> bool
     ensures { result ≡ lists_close (lowered (name.now, value.now)) }
 {
@@ -46,7 +46,7 @@ fn is_close(element: &[u8]) -> bool
     element.eq_ignore_ascii_case(b"close")
 }
 
-/// The elements of a list, without the spaces and tabs around each (RFC 9110, section 5.6.1).
+// The elements of a list, without the spaces and tabs around each (RFC 9110, section 5.6.1).
 #[derive(Drop)]
 struct Elements<'a> {
     rest: Option<&'a [u8]>,

@@ -126,7 +126,7 @@ impl<'a> Head<'a> {
         framing_of(self.bytes, self.fields).fault(self.is_http11)
     }
 
-    /// Whether each value is UTF-8; all other bytes of a head are in any case.
+    // Whether each value is UTF-8; all other bytes of a head are in any case.
     fn is_text(&self) -> bool
         ensures texts { OnTrue result (AreTexts self.now) }
         ensures others { OnFalse result (Any IsBadText self.now.fields) }

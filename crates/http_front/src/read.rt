@@ -56,7 +56,7 @@ pub fn read_head(
     ask_with(alloc, bytes, &mut fields, limits, conn)
 }
 
-/// The same with `fields`, room for as many fields as the bytes have line feeds.
+// The same with `fields`, room for as many fields as the bytes have line feeds.
 fn ask_with(
     alloc: Global,
     bytes: &[u8],
@@ -75,8 +75,8 @@ fn ask_with(
     ask_in(alloc, parse(room, fields), bytes.len(), limits, conn)
 }
 
-/// The ask of what the parser gave for as many bytes as a head may have; `length` is the number of all bytes. Without
-/// a whole head no memory is taken.
+// The ask of what the parser gave for as many bytes as a head may have; `length` is the number of all bytes. Without
+// a whole head no memory is taken.
 fn ask_in(
     alloc: Global,
     parsed: Parsed<'_>,
@@ -155,7 +155,7 @@ pub(crate) fn ask_on(
     Ok(ask_within(limits, request))
 }
 
-/// The ask for a request; a fault if the request is outside the limits.
+// The ask for a request; a fault if the request is outside the limits.
 #[inline(always)]
 fn ask_within(limits: &Limits, request: Request) -> HeadAsk
     ensures { IsAskWithin limits.now request result }

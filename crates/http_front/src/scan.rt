@@ -49,7 +49,7 @@ impl Scan {
         }
     }
 
-    /// Takes the byte at this index.
+    // Takes the byte at this index.
     fn step(self, bytes: &[u8], at: usize) -> Scan
         requires { (at < length bytes.now) × IsSeen self (take at bytes.now) }
         ensures { IsSeen result (take (at + 1) bytes.now) }

@@ -25,10 +25,10 @@ pub(crate) struct Spelled<'a> {
     pub(crate) back: &'a [Line<'a>],
 }
 
-/// The bytes of a head beside its method, its target and its lines: two spaces, the version, and two line ends.
+// The bytes of a head beside its method, its target and its lines: two spaces, the version, and two line ends.
 const FIXED: usize = 14;
 
-/// The bytes of a line beside its name and its value: the colon and the line end.
+// The bytes of a line beside its name and its value: the colon and the line end.
 const FIXED_OF_LINE: usize = 3;
 
 impl<'a> Spelled<'a> {
@@ -61,7 +61,7 @@ impl<'a> Spelled<'a> {
         }
     }
 
-    /// The part in which the head is malformed, if there is one.
+    // The part in which the head is malformed, if there is one.
     fn malformed(&self) -> Option<HeadPart>
         ensures none { IfNone result (IsRequestHead (head_in self.now)) }
         ensures part { IfSome result (IsMalformedIn (head_in self.now)) }
@@ -78,7 +78,7 @@ impl<'a> Spelled<'a> {
         malformed_line(self.back)
     }
 
-    /// How many bytes a head could have more than this one; none if it is too long.
+    // How many bytes a head could have more than this one; none if it is too long.
     fn left(&self) -> Option<usize>
         ensures some { IfSome result (λ left. length (print_request (head_in self.now)) + left ≡ head_room) }
         ensures none { IfNone result (head_room < length (print_request (head_in self.now))) }
@@ -90,7 +90,7 @@ impl<'a> Spelled<'a> {
     }
 }
 
-/// Whether a request of this protocol is spelled as a head of HTTP/1.1, or else of HTTP/1.0.
+// Whether a request of this protocol is spelled as a head of HTTP/1.1, or else of HTTP/1.0.
 fn spells_http11(protocol: Protocol) -> bool
     ensures { result ≡ spells_http11 protocol }
 {
@@ -100,7 +100,7 @@ fn spells_http11(protocol: Protocol) -> bool
     }
 }
 
-/// The lines before and after a Host that has the value of the first `:authority`. Without such a Host, all lines.
+// The lines before and after a Host that has the value of the first `:authority`. Without such a Host, all lines.
 fn without_repeated<'a>(lines: &'a [Line<'a>]) -> (&'a [Line<'a>], &'a [Line<'a>])
     ensures { map field_view result.0.now ++ map field_view result.1.now
         ≡ without_repeated (map field_view lines.now) (map field_view lines.now) }
@@ -113,7 +113,7 @@ fn without_repeated<'a>(lines: &'a [Line<'a>]) -> (&'a [Line<'a>], &'a [Line<'a>
     (lines, &[])
 }
 
-/// The lines before and after the first Host with this value. Without such a Host, all lines.
+// The lines before and after the first Host with this value. Without such a Host, all lines.
 fn without_host<'a>(lines: &'a [Line<'a>], value: &[u8]) -> (&'a [Line<'a>], &'a [Line<'a>])
     ensures { map field_view result.0.now ++ map field_view result.1.now
         ≡ without_host value.now (map field_view lines.now) }
@@ -126,7 +126,7 @@ fn without_host<'a>(lines: &'a [Line<'a>], value: &[u8]) -> (&'a [Line<'a>], &'a
     (lines, &[])
 }
 
-/// Whether the bytes are a target by the grammar of a head.
+// Whether the bytes are a target by the grammar of a head.
 fn is_target(target: &[u8]) -> bool
     ensures { IsTrue result ↔ IsTarget target.now }
 {
@@ -135,7 +135,7 @@ fn is_target(target: &[u8]) -> bool
         && str::from_utf8(target).is_ok()
 }
 
-/// The part in which one of the lines is malformed.
+// The part in which one of the lines is malformed.
 fn malformed_line(lines: &[Line<'_>]) -> Option<HeadPart>
     ensures none { IfNone result (All IsField (map line_of (map field_view lines.now))) }
     ensures part { IfSome result (AreMalformedIn (map line_of (map field_view lines.now))) }
@@ -148,7 +148,7 @@ fn malformed_line(lines: &[Line<'_>]) -> Option<HeadPart>
     None
 }
 
-/// The part in which the line is malformed.
+// The part in which the line is malformed.
 fn malformed_in(line: &Line<'_>) -> Option<HeadPart>
     ensures none { IfNone result (IsField (line_of (field_view line.now))) }
     ensures part { IfSome result (IsLineMalformedIn (line_of (field_view line.now))) }
@@ -162,7 +162,7 @@ fn malformed_in(line: &Line<'_>) -> Option<HeadPart>
     None
 }
 
-/// What is left of so many bytes after these lines, if there is room for them.
+// What is left of so many bytes after these lines, if there is room for them.
 fn left_after(room: usize, lines: &[Line<'_>]) -> Option<usize>
     ensures some { IfSome result (λ left.
         length (flat_map print_field (map line_of (map field_view lines.now))) + left ≡ room) }
@@ -175,7 +175,7 @@ fn left_after(room: usize, lines: &[Line<'_>]) -> Option<usize>
     Some(left)
 }
 
-/// What is left of so many bytes after this line, if there is room for it.
+// What is left of so many bytes after this line, if there is room for it.
 fn left_after_line(room: usize, line: &Line<'_>) -> Option<usize>
     ensures some { IfSome result (λ left. length (print_field (line_of (field_view line.now))) + left ≡ room) }
     ensures none { IfNone result (room < length (print_field (line_of (field_view line.now)))) }

@@ -42,7 +42,7 @@ impl<'a> Spelled<'a> {
         None
     }
 
-    /// The fault of the head, if it breaks a rule.
+    // The fault of the head, if it breaks a rule.
     fn fault(&self) -> Option<HeadFault>
         requires shape { IsRequestHead (head_in self.now) }
         requires room { length (print_request (head_in self.now)) ≤ head_room }
@@ -65,7 +65,7 @@ impl<'a> Spelled<'a> {
         framing.fault(self.is_http11)
     }
 
-    /// Whether the head has more fields than any request within the limits.
+    // Whether the head has more fields than any request within the limits.
     fn exceeds(&self, limits: &Limits) -> bool
         requires { length (print_request (head_in self.now)) ≤ head_room }
         ensures { MatchBool result (limits.now.fields < length (head_of (head_in self.now)).fields)
@@ -98,7 +98,7 @@ impl<'a> Spelled<'a> {
     }
 }
 
-/// Whether the values of these lines are UTF-8.
+// Whether the values of these lines are UTF-8.
 fn are_texts(lines: &[Line<'_>]) -> bool
     ensures texts { OnTrue result (All HasTextValue (head_fields (map field_view lines.now))) }
     ensures others { OnFalse result (Any IsBadText (head_fields (map field_view lines.now))) }
@@ -111,7 +111,7 @@ fn are_texts(lines: &[Line<'_>]) -> bool
     true
 }
 
-/// Counts and tests these lines too.
+// Counts and tests these lines too.
 fn add_lines(framing: &mut Framing, lines: &[Line<'_>])
     requires { (before : List Entry) × IsFraming before framing.old
         × (length before + length lines.now < 2 ^ 63) }
@@ -123,7 +123,7 @@ fn add_lines(framing: &mut Framing, lines: &[Line<'_>])
     }
 }
 
-/// Adds the lines to the draft, in order.
+// Adds the lines to the draft, in order.
 fn draft_lines(draft: &mut Draft, lines: &[Line<'_>]) -> Result<(), AllocError>
     requires texts { All IsTextEntry (head_fields (map field_view lines.now)) }
     requires names { All HasAsciiName (head_fields (map field_view lines.now)) }

@@ -20,12 +20,12 @@ use rbac_judge::{Notes, Outcome, PolicyFile, admit_file};
 use std::alloc::Global;
 use std::io::{BufReader, Read, Write};
 
-/// What a batch begins with.
+// What a batch begins with.
 #[derive(Drop)]
 enum Start {
-    /// The policy is admitted, and heads are judged by this.
+    // The policy is admitted, and heads are judged by this.
     Ready(BatchSettings),
-    /// The policy is refused.
+    // The policy is refused.
     Refused(Refusal),
 }
 
@@ -60,7 +60,7 @@ pub fn run_batch<F: Source, R: Read + Drop, W: Write, E: Write>(
     }
 }
 
-/// Reads the files of a batch: the policy, and the facts of lines without facts.
+// Reads the files of a batch: the policy, and the facts of lines without facts.
 fn begin<F: Source>(
     alloc: Global,
     words: BatchWords,
@@ -88,7 +88,7 @@ fn begin<F: Source>(
     }
 }
 
-/// Answers the lines of the input. Returns the status.
+// Answers the lines of the input. Returns the status.
 fn answer_lines<R: Read + Drop, W: Write, E: Write>(
     alloc: Global,
     basis: &BatchSettings,

@@ -49,7 +49,7 @@ pub fn end_by<W: Write, E: Write>(
     }
 }
 
-/// Whether the words ask for a text, and so are no mistake.
+// Whether the words ask for a text, and so are no mistake.
 fn is_shown(kind: WordsKind) -> bool
     ensures { IsTrue result ↔ IsShown kind }
 {
@@ -96,7 +96,7 @@ pub(crate) fn text_of(alloc: Global, fault: &JobFault, notes: &Notes) -> Result<
     }
 }
 
-/// The text, with a line for the cause of this error below.
+// The text, with a line for the cause of this error below.
 fn with_error(alloc: Global, line: String, error: &io::Error) -> Result<String, AllocError>
     ensures { IfOk result (λ text. StartsWith (string_bytes text) (string_bytes line)) }
 {

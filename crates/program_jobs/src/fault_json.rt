@@ -40,7 +40,7 @@ pub(crate) fn end_in_json<W: Write, E: Write>(
     }
 }
 
-/// The exit status of a fault.
+// The exit status of a fault.
 fn status_of(fault: &JobFault) -> u8
     ensures { result ≡ status_of_fault fault.now }
 {
@@ -55,7 +55,7 @@ fn status_of(fault: &JobFault) -> u8
     }
 }
 
-/// The line with the fault's JSON object.
+// The line with the fault's JSON object.
 fn object_line(alloc: Global, fault: &JobFault, notes: &Notes) -> Result<String, AllocError>
     ensures { IfOk result (λ line.
         (cause : List ℕ) × (string_bytes line ≡ fault_object fault.now cause)) }
@@ -64,7 +64,7 @@ fn object_line(alloc: Global, fault: &JobFault, notes: &Notes) -> Result<String,
     object_with(alloc, fault, cause.as_str())
 }
 
-/// The line with the fault's JSON object, with this cause.
+// The line with the fault's JSON object, with this cause.
 fn object_with(alloc: Global, fault: &JobFault, cause: &str) -> Result<String, AllocError>
     ensures { IfOk result (λ line. string_bytes line ≡ fault_object fault.now cause.now) }
 {
@@ -75,14 +75,14 @@ fn object_with(alloc: Global, fault: &JobFault, cause: &str) -> Result<String, A
     Ok(line)
 }
 
-/// The JSON object with these words and this cause.
+// The JSON object with these words and this cause.
 fn fault_value(alloc: Global, words: &str, cause: &str) -> Result<Value, AllocError>
     ensures { IfOk result (λ value. view value ≡ fault_json words.now cause.now) }
 {
     json!(in alloc; {"cause": cause, "error": words})
 }
 
-/// The line of the fault, without its end.
+// The line of the fault, without its end.
 fn words_of(alloc: Global, fault: &JobFault) -> Result<String, AllocError>
     ensures { IfOk result (λ words. string_bytes words ≡ fault_words fault.now) }
 {
@@ -101,7 +101,7 @@ fn words_of(alloc: Global, fault: &JobFault) -> Result<String, AllocError>
     }
 }
 
-/// The cause of the fault.
+// The cause of the fault.
 fn cause_of(alloc: Global, fault: &JobFault, notes: &Notes) -> Result<String, AllocError> {
     match fault {
         JobFault::File(_, cause) => cause.to_string(alloc),

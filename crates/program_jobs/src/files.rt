@@ -94,7 +94,7 @@ pub(crate) enum WholeFault {
 }
 
 impl WholeFault {
-    /// The fault as an error of the input.
+    // The fault as an error of the input.
     fn error(self) -> io::Error
         ensures long { self ≡ WholeFault.TooLong → error_kind result ≡ ErrorKind.FileTooLarge }
         ensures read { (cause : IoError) → self ≡ WholeFault.Read cause → result ≡ cause }

@@ -35,7 +35,7 @@ pub(crate) fn conn_of<F: Source>(
     }
 }
 
-/// The connection with the facts of the facts file at this path.
+// The connection with the facts of the facts file at this path.
 fn read_facts_file<F: Source>(
     alloc: Global,
     files: &F,
@@ -60,7 +60,7 @@ fn read_facts_file<F: Source>(
     }
 }
 
-/// The job's fault if the facts cannot be read.
+// The job's fault if the facts cannot be read.
 fn stop_by_facts(fault: FactsFault) -> JobFault
     ensures bad { fault ≡ FactsFault.Bad → result ≡ JobFault.Facts }
     ensures memory { fault ≡ FactsFault.Memory → result ≡ JobFault.Memory }
@@ -83,7 +83,7 @@ pub fn read_file<F: Source>(alloc: Global, files: &F, path: &str) -> Result<Vec<
     }
 }
 
-/// The job's fault if the file of this name cannot be read, for this cause.
+// The job's fault if the file of this name cannot be read, for this cause.
 fn stop_by_file(name: String, cause: io::Error) -> JobFault
     ensures file { error_kind cause ≢ ErrorKind.OutOfMemory → result ≡ JobFault.File name cause }
     ensures memory { error_kind cause ≡ ErrorKind.OutOfMemory → result ≡ JobFault.Memory }

@@ -36,7 +36,7 @@ pub(crate) fn end_result<W: Write, E: Write>(
     }
 }
 
-/// Prints the report of a job, with why it is no verdict. Returns the status.
+// Prints the report of a job, with why it is no verdict. Returns the status.
 fn end_report<W: Write, E: Write>(
     alloc: Global,
     report: Report,
@@ -70,8 +70,8 @@ pub(crate) fn report_of(found: Result<Finding, JobFault>, json: bool) -> Result<
     }
 }
 
-/// Prints why an outcome is no verdict, or why a verdict is not explained, on standard error. A failure there is
-/// ignored.
+// Prints why an outcome is no verdict, or why a verdict is not explained, on standard error. A failure there is
+// ignored.
 fn write_notes<E: Write>(report: &Report, notes: &Notes, errors: &mut E)
     ensures { WritesCauseFor (E.contents errors.old) (E.contents errors.new) report.now.explanation
         report.now.outcome }
@@ -87,7 +87,7 @@ fn write_notes<E: Write>(report: &Report, notes: &Notes, errors: &mut E)
     }
 }
 
-/// Prints why there is no explanation, if one was asked for.
+// Prints why there is no explanation, if one was asked for.
 fn write_cause<E: Write>(explanation: &Explanation, errors: &mut E)
     ensures { WritesCause (E.contents errors.old) (E.contents errors.new) explanation.now }
 {
@@ -100,7 +100,7 @@ fn write_cause<E: Write>(explanation: &Explanation, errors: &mut E)
     }
 }
 
-/// Prints the rule that a head breaks, and the part that exceeds its limit.
+// Prints the rule that a head breaks, and the part that exceeds its limit.
 fn write_head_fault<E: Write>(fault: HeadFault, notes: &Notes, errors: &mut E) {
     let _ = writeln!(errors, "  {}", rule_of(fault));
     if let Some(cause) = &notes.head {
@@ -108,7 +108,7 @@ fn write_head_fault<E: Write>(fault: HeadFault, notes: &Notes, errors: &mut E) {
     }
 }
 
-/// Prints the meaning of the refusal, the part of the policy file that has the fault, and what the file looks like.
+// Prints the meaning of the refusal, the part of the policy file that has the fault, and what the file looks like.
 fn write_refusal<E: Write>(refusal: Refusal, notes: &Notes, errors: &mut E) {
     let _ = writeln!(errors, "  {}", notes.part.meaning(refusal));
     if let Some(place) = &notes.part.place {

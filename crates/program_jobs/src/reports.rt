@@ -60,7 +60,7 @@ pub fn run_judge<F: Source, R: Read + Drop, W: Write, E: Write>(
     end_result(alloc, found, json, &notes, out, errors)
 }
 
-/// Checks a policy file.
+// Checks a policy file.
 fn check_file<F: Source>(
     alloc: Global,
     policy: &str,
@@ -82,7 +82,7 @@ fn check_file<F: Source>(
     Ok(Finding::bare(check(alloc, policy, notes)))
 }
 
-/// Judges the head that the input begins with, by a policy file, on a connection with the facts of a facts file.
+// Judges the head that the input begins with, by a policy file, on a connection with the facts of a facts file.
 fn judge_files<F: Source, R: Read + Drop>(
     alloc: Global,
     words: JudgeWords,

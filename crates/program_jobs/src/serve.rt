@@ -48,7 +48,7 @@ pub fn run_control<F: Source + Sockets, W: Write, E: Write>(
     }
 }
 
-/// Serves the stream of the first client to its end. Returns the number of the last acknowledged snapshot.
+// Serves the stream of the first client to its end. Returns the number of the last acknowledged snapshot.
 fn acknowledged_by<F: Source + Sockets>(
     alloc: Global,
     words: &ControlWords,
@@ -67,7 +67,7 @@ fn acknowledged_by<F: Source + Sockets>(
     Ok(control.acknowledged())
 }
 
-/// The log that goes to the file at this path; if no path is given, nothing is logged.
+// The log that goes to the file at this path; if no path is given, nothing is logged.
 fn log_of<F: Source>(
     alloc: Global,
     files: &F,
@@ -84,7 +84,7 @@ fn log_of<F: Source>(
     }
 }
 
-/// Listens at this address.
+// Listens at this address.
 fn listen<N: Sockets>(alloc: Global, sockets: &N, address: &str) -> Result<N::Listener, JobFault>
     ensures found { IfOk result (λ listener. (link : Option Link)
         → N.Listener.accepts listener link → N.accepts sockets.now address.now link) }
@@ -96,7 +96,7 @@ fn listen<N: Sockets>(alloc: Global, sockets: &N, address: &str) -> Result<N::Li
     }
 }
 
-/// Serves the first stream that is accepted to its end, or the call of gRPC on it.
+// Serves the first stream that is accepted to its end, or the call of gRPC on it.
 fn serve_first<N: Listen, L: Write + Drop>(
     alloc: Global,
     control: &mut Control,
@@ -114,7 +114,7 @@ fn serve_first<N: Listen, L: Write + Drop>(
     serve_accepted(control, accepted, log);
 }
 
-/// Serves the call of gRPC on the stream to its end, if one was accepted and there is memory for it.
+// Serves the call of gRPC on the stream to its end, if one was accepted and there is memory for it.
 fn serve_call<R: Read + Drop, W: Write + Drop, L: Write + Drop>(
     alloc: Global,
     control: &mut Control,
@@ -133,7 +133,7 @@ fn serve_call<R: Read + Drop, W: Write + Drop, L: Write + Drop>(
     reader.end();
 }
 
-/// Serves the stream to its end, if one was accepted.
+// Serves the stream to its end, if one was accepted.
 fn serve_accepted<R: Read + Drop, W: Write + Drop, L: Write + Drop>(
     control: &mut Control,
     accepted: io::Result<(R, W)>,
@@ -149,7 +149,7 @@ fn serve_accepted<R: Read + Drop, W: Write + Drop, L: Write + Drop>(
     }
 }
 
-/// The line that is printed after a stream ended.
+// The line that is printed after a stream ended.
 fn acknowledged_text(alloc: Global, acknowledged: Option<u64>) -> Result<String, AllocError>
     ensures { IfOk result (λ text. string_bytes text ≡ acknowledged_line acknowledged) }
 {
@@ -178,7 +178,7 @@ pub fn run_proxy<F: Source + Sockets, W: Write, E: Write>(
     }
 }
 
-/// Runs the rounds of a proxy with this configuration and these addresses.
+// Runs the rounds of a proxy with this configuration and these addresses.
 fn run_rounds<F: Source + Sockets>(
     alloc: Global,
     words: ProxyWords,
@@ -203,8 +203,8 @@ fn run_rounds<F: Source + Sockets>(
     Ok(())
 }
 
-/// The connection with the facts of the facts file, or a plain one if no file is named. Its facts are within the
-/// limits.
+// The connection with the facts of the facts file, or a plain one if no file is named. Its facts are within the
+// limits.
 fn fitting_conn<F: Source>(
     alloc: Global,
     facts: Option<String>,
@@ -228,11 +228,11 @@ fn fitting_conn<F: Source>(
     Err(JobFault::Facts)
 }
 
-/// The source of a proxy's streams: sockets.
+// The source of a proxy's streams: sockets.
 #[derive(Drop)]
 struct SocketStreams<'a, N: Sockets> {
     sockets: &'a N,
-    /// The address of the control plane.
+    // The address of the control plane.
     control: &'a str,
     listener: N::Listener,
 }

@@ -15,7 +15,7 @@ use serve_log::facts_value;
 use std::alloc::{AllocError, Global};
 use std::sync::ArcStr;
 
-/// The length of the longest text of a peer's address with its port: one of IPv6 in brackets.
+// The length of the longest text of a peer's address with its port: one of IPv6 in brackets.
 const LONGEST_PEER: usize = 47;
 
 /// What a server is set to.

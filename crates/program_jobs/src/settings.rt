@@ -98,7 +98,7 @@ pub(crate) fn end_replay<E: Write>(alloc: Global, fault: ReplayFault, errors: &m
     }
 }
 
-/// Ends the replay at a line that is no event.
+// Ends the replay at a line that is no event.
 fn end_by_line<E: Write>(alloc: Global, number: u64, cause: &str, errors: &mut E) -> u8
     ensures { WritesLine (E.contents errors.old) (E.contents errors.new) result number }
 {
@@ -108,14 +108,14 @@ fn end_by_line<E: Write>(alloc: Global, number: u64, cause: &str, errors: &mut E
     }
 }
 
-/// The text on standard error for a line that is no event.
+// The text on standard error for a line that is no event.
 fn line_fault_text(alloc: Global, number: u64, cause: &str) -> Result<String, AllocError>
     ensures { IfOk result (λ text. StartsWith (string_bytes text) (bad_line number)) }
 {
     with_cause(alloc, format!(in alloc; "bad line {number}\n")?, cause)
 }
 
-/// Ends the replay if the input cannot be read.
+// Ends the replay if the input cannot be read.
 fn end_by_input<E: Write>(alloc: Global, cause: io::Error, errors: &mut E) -> u8
     ensures { (result ≡ 5) ⊎ (result ≡ 2) }
 {
@@ -125,7 +125,7 @@ fn end_by_input<E: Write>(alloc: Global, cause: io::Error, errors: &mut E) -> u8
     }
 }
 
-/// The text on standard error for an input that cannot be read.
+// The text on standard error for an input that cannot be read.
 fn input_text(alloc: Global, cause: io::Error) -> Result<String, AllocError> {
     let cause = cause.to_string(alloc)?;
     format!(in alloc; "cannot read standard input\n  {cause}\n")

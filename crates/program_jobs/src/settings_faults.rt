@@ -6,7 +6,7 @@ use serde_json::{Map, Value, put};
 use serve_config::{ServeConfigFault, read_serve_config};
 use std::alloc::{AllocError, Global};
 
-/// How often the settings are read again without a member that is wrong.
+// How often the settings are read again without a member that is wrong.
 const MOST_READS: usize = 16;
 
 /// The first fault of each member, one on a line, in the order in which the members are read. The first line is the fault
@@ -20,7 +20,7 @@ pub(crate) fn all_causes(alloc: Global, value: Value) -> Result<String, AllocErr
     causes_text(alloc, &causes)
 }
 
-/// The faults inside `proxy` and `facts`, as far as these are present.
+// The faults inside `proxy` and `facts`, as far as these are present.
 fn inner_causes(alloc: Global, value: &Value) -> Result<Vec<String>, AllocError> {
     let mut causes = Vec::new(alloc);
     if let Some(proxy) = value.get("proxy") {
@@ -42,7 +42,7 @@ fn inner_causes(alloc: Global, value: &Value) -> Result<Vec<String>, AllocError>
     Ok(causes)
 }
 
-/// The fault of `facts`, if they have one.
+// The fault of `facts`, if they have one.
 fn cause_of_facts(alloc: Global, facts: &Value) -> Result<Option<String>, AllocError> {
     match conn_of(alloc, facts) {
         Ok(_) => Ok(None),
@@ -54,7 +54,7 @@ fn cause_of_facts(alloc: Global, facts: &Value) -> Result<Option<String>, AllocE
     }
 }
 
-/// The faults of the members. After each one the settings are read again without the member that is wrong.
+// The faults of the members. After each one the settings are read again without the member that is wrong.
 fn causes_of_members(alloc: Global, value: Value) -> Result<Vec<String>, AllocError> {
     let mut value = value;
     let mut causes = Vec::new(alloc);
@@ -70,7 +70,7 @@ fn causes_of_members(alloc: Global, value: Value) -> Result<Vec<String>, AllocEr
     Ok(causes)
 }
 
-/// The first fault of a member, if there is one.
+// The first fault of a member, if there is one.
 fn fault_of(alloc: Global, value: &Value) -> Result<Option<ServeConfigFault>, AllocError> {
     match read_serve_config(alloc, value) {
         Ok(_) => Ok(None),
@@ -79,7 +79,7 @@ fn fault_of(alloc: Global, value: &Value) -> Result<Option<ServeConfigFault>, Al
     }
 }
 
-/// Takes the member of a fault out of an object, or gives it an allowed value if it is required. Whether that was done.
+// Takes the member of a fault out of an object, or gives it an allowed value if it is required. Whether that was done.
 fn is_mended(
     alloc: Global,
     value: &mut Value,
@@ -94,7 +94,7 @@ fn is_mended(
     }
 }
 
-/// Takes the member at this path out of the members, or gives it an allowed value. Whether there was one.
+// Takes the member at this path out of the members, or gives it an allowed value. Whether there was one.
 fn is_replaced(
     alloc: Global,
     members: &mut Map<String, Value>,
@@ -111,7 +111,7 @@ fn is_replaced(
     Ok(true)
 }
 
-/// The name of the member in which a path begins.
+// The name of the member in which a path begins.
 fn first_name(path: &str) -> &str {
     let name = path.split('.').next().unwrap_or(path);
     name.split('[').next().unwrap_or(name)

@@ -22,13 +22,13 @@ use std::alloc::Global;
 use std::io::{self, ErrorKind};
 use xds_wire::{Any, TypedExtensionConfig, read_extension, read_response};
 
-/// How many bytes are before a message in its frame.
+// How many bytes are before a message in its frame.
 const FRAME_HEAD: usize = 5;
 
-/// The type URL of a named filter in a response.
+// The type URL of a named filter in a response.
 const EXTENSION_TYPE: &str = "type.googleapis.com/envoy.config.core.v3.TypedExtensionConfig";
 
-/// The type URL of a filter's message.
+// The type URL of a filter's message.
 const FILTER_TYPE: &str = "type.googleapis.com/envoy.extensions.filters.http.rbac.v3.RBAC";
 
 /// The snapshots of these files.
@@ -53,7 +53,7 @@ pub(crate) fn snapshots_of<F: Source>(
     }
 }
 
-/// The snapshots of these files, each with one filter of each name.
+// The snapshots of these files, each with one filter of each name.
 fn named_snapshots<F: Source>(
     alloc: Global,
     files: &F,
@@ -76,7 +76,7 @@ fn named_snapshots<F: Source>(
     Ok(snapshots)
 }
 
-/// The snapshot of these files, one for each name.
+// The snapshot of these files, one for each name.
 fn named_snapshot<F: Source>(
     alloc: Global,
     files: &F,
@@ -97,7 +97,7 @@ fn named_snapshot<F: Source>(
     Ok(Snapshot { resources })
 }
 
-/// The filter of this name, of the file at this path.
+// The filter of this name, of the file at this path.
 fn filter_at<F: Source>(
     alloc: Global,
     files: &F,
@@ -113,7 +113,7 @@ fn filter_at<F: Source>(
     Ok(Resource { name, filter })
 }
 
-/// The snapshots of these files of responses.
+// The snapshots of these files of responses.
 fn response_snapshots<F: Source>(
     alloc: Global,
     files: &F,
@@ -131,7 +131,7 @@ fn response_snapshots<F: Source>(
     Ok(snapshots)
 }
 
-/// The snapshot of the response in the file at this path.
+// The snapshot of the response in the file at this path.
 fn response_snapshot<F: Source>(alloc: Global, files: &F, path: &str) -> Result<Snapshot, JobFault>
     ensures found { IfOk result (λ s. IsResponseAt (F.holds files.now) (F.lacks files.now) path.now
         (snapshot_view s)) }
@@ -145,7 +145,7 @@ fn response_snapshot<F: Source>(alloc: Global, files: &F, path: &str) -> Result<
     }
 }
 
-/// The job's fault if the file of this name holds no response, with this refusal.
+// The job's fault if the file of this name holds no response, with this refusal.
 fn stop_by_response(name: String, refusal: Refusal) -> JobFault
     ensures memory { refusal ≡ Refusal.Memory → result ≡ JobFault.Memory }
     ensures file { (result ≡ JobFault.Memory) ⊎ ((cause : IoError) × (result ≡ JobFault.File name cause)) }
@@ -160,7 +160,7 @@ fn stop_by_response(name: String, refusal: Refusal) -> JobFault
     JobFault::File(name, cause)
 }
 
-/// The snapshot of the response that these bytes hold, with or without its frame.
+// The snapshot of the response that these bytes hold, with or without its frame.
 fn snapshot_in(alloc: Global, bytes: &[u8]) -> Result<Snapshot, Refusal>
     ensures found { IfOk result (λ s. HoldsSnapshot bytes.now (snapshot_view s)) }
     ensures fault { IfErr result (MemoryOr (λ e. (snapshot : List ResourceValue)
@@ -169,7 +169,7 @@ fn snapshot_in(alloc: Global, bytes: &[u8]) -> Result<Snapshot, Refusal>
     snapshot_of(alloc, message_in(bytes))
 }
 
-/// The message of the frame, if the bytes are one frame; otherwise all of them.
+// The message of the frame, if the bytes are one frame; otherwise all of them.
 fn message_in(bytes: &[u8]) -> &[u8]
     ensures { IsMessageIn bytes.now result.now }
 {
@@ -183,7 +183,7 @@ fn message_in(bytes: &[u8]) -> &[u8]
     bytes
 }
 
-/// Whether these bytes are the head of the frame of a message of this length.
+// Whether these bytes are the head of the frame of a message of this length.
 fn is_head(bytes: &[u8], length: usize) -> bool
     ensures { IsTrue result ↔ ((length < 2 ^ 32) × (bytes.now ≡ head_of length)) }
 {
@@ -194,7 +194,7 @@ fn is_head(bytes: &[u8], length: usize) -> bool
     bytes == [0, a, b, c, d].as_slice()
 }
 
-/// The snapshot of this response.
+// The snapshot of this response.
 fn snapshot_of(alloc: Global, message: &[u8]) -> Result<Snapshot, Refusal>
     ensures found { IfOk result (λ s. IsResponseWith message.now (snapshot_view s)) }
     ensures fault { IfErr result (MemoryOr (λ e. (snapshot : List ResourceValue)
@@ -206,7 +206,7 @@ fn snapshot_of(alloc: Global, message: &[u8]) -> Result<Snapshot, Refusal>
     Ok(Snapshot { resources })
 }
 
-/// The filters that these resources of a response hold, with their names.
+// The filters that these resources of a response hold, with their names.
 fn filters_in(alloc: Global, resources: &[Any<'_>]) -> Result<Vec<Resource>, Refusal>
     ensures found { IfOk result (λ v. AllZip (λ any r. IsResource any (extension_of r))
         (map any_view resources.now) (map resource_view v.items)) }
@@ -220,7 +220,7 @@ fn filters_in(alloc: Global, resources: &[Any<'_>]) -> Result<Vec<Resource>, Ref
     Ok(filters)
 }
 
-/// Refuses any type but that of named filters.
+// Refuses any type but that of named filters.
 fn check_type(type_url: &str) -> Result<(), Refusal>
     ensures found { OnOk result (type_url.now ≡ extension_type) }
     ensures fault { OnErr result (¬ (type_url.now ≡ extension_type)) }
@@ -231,7 +231,7 @@ fn check_type(type_url: &str) -> Result<(), Refusal>
     Ok(())
 }
 
-/// The filter that this resource of a response holds, with its name.
+// The filter that this resource of a response holds, with its name.
 fn filter_in(alloc: Global, resource: &Any<'_>) -> Result<Resource, Refusal>
     ensures found { IfOk result (λ r. IsResource (any_view resource.now) (extension_of (resource_view r))) }
     ensures fault { IfErr result (MemoryOr (λ e. (r : ResourceValue)
@@ -245,7 +245,7 @@ fn filter_in(alloc: Global, resource: &Any<'_>) -> Result<Resource, Refusal>
     Ok(Resource { name, filter })
 }
 
-/// The bytes of the filter's message that the extension holds, if it has a name.
+// The bytes of the filter's message that the extension holds, if it has a name.
 fn filter_bytes<'a>(extension: &TypedExtensionConfig<'a>) -> Result<&'a [u8], Refusal>
     ensures found { IfOk result (λ bytes. HoldsFilter (extension_view extension.now) bytes.now
         × (extension.now.name.now ≢ [])) }

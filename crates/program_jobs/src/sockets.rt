@@ -77,7 +77,7 @@ impl Listen for TcpListener {
     }
 }
 
-/// A stream as an end to read from and one to write to.
+// A stream as an end to read from and one to write to.
 fn both_ends(stream: TcpStream) -> io::Result<(TcpStream, TcpStream)> {
     Ok((stream.try_clone()?, stream))
 }

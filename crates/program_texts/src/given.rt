@@ -73,7 +73,7 @@ fn owned_text(alloc: Global, text: Option<&str>) -> Result<Option<ArcStr>, Alloc
     }
 }
 
-/// The name of a server, in its one form.
+// The name of a server, in its one form.
 fn owned_name(alloc: Global, text: Option<&str>) -> Result<Option<ArcStr>, AllocError>
     ensures { IfOk result (λ copy.
         text_view copy ≡ option_map server_name (option_map (λ t. t.now) text.entry)) }
@@ -84,7 +84,7 @@ fn owned_name(alloc: Global, text: Option<&str>) -> Result<Option<ArcStr>, Alloc
     }
 }
 
-/// Refuses any value but an object whose names are all those of facts.
+// Refuses any value but an object whose names are all those of facts.
 fn require_fact_names<'a>(value: &'a Value) -> Result<(), FactFault<'a>>
     ensures found { OnOk result (HasFactNames (view value.now)) }
     ensures fault { IfErr result (HasFactFault (view value.now)) }
@@ -95,7 +95,7 @@ fn require_fact_names<'a>(value: &'a Value) -> Result<(), FactFault<'a>>
     }
 }
 
-/// Refuses members if one has a name that no fact has.
+// Refuses members if one has a name that no fact has.
 fn require_named<'a>(members: &'a Map<String, Value>) -> Result<(), FactFault<'a>>
     ensures found { OnOk result (AreNamed (members_view members.now.entries)) }
     ensures fault { IfErr result (HasUnknown (members_view members.now.entries)) }
@@ -106,7 +106,7 @@ fn require_named<'a>(members: &'a Map<String, Value>) -> Result<(), FactFault<'a
     }
 }
 
-/// Whether no fact has this name.
+// Whether no fact has this name.
 fn is_unknown(name: &str) -> bool
     ensures unknown { result ≡ true → ¬ IsFactName name.now }
     ensures known { result ≡ false → IsFactName name.now }
@@ -129,7 +129,7 @@ fn text_at<'a>(object: &'a Value, fact: Fact) -> Result<Option<&'a str>, FactFau
     }
 }
 
-/// The name of the server, as it is written.
+// The name of the server, as it is written.
 fn name_at<'a>(object: &'a Value) -> Result<Option<&'a str>, FactFault<'a>>
     ensures found { IfOk result
         (λ text. BothOrNone IsServerName (get (name_of ConnectionRequestedServerName) (view object.now))

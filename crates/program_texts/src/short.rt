@@ -18,7 +18,7 @@ pub fn within_limits(conn: Conn) -> Result<Conn, FactFault<'static>>
     Ok(conn)
 }
 
-/// Refuses a connection with a text above the limit.
+// Refuses a connection with a text above the limit.
 fn require_limits(conn: &Conn) -> Result<(), FactFault<'static>>
     ensures found { OnOk result (FactsInLimits (conn_view conn.now) largest) }
     ensures fault { IfErr result (HasLongText (conn_view conn.now)) }
@@ -45,7 +45,7 @@ fn require_limits(conn: &Conn) -> Result<(), FactFault<'static>>
     require_text(Fact::RequestScheme, conn.scheme.as_str())
 }
 
-/// Refuses the text of a fact above the limit, if there is one.
+// Refuses the text of a fact above the limit, if there is one.
 fn require_short(fact: Fact, text: &Option<ArcStr>) -> Result<(), FactFault<'static>>
     ensures found { OnOk result (IsWithin largest.text (text_view text.now)) }
     ensures fault { IfErr result (IsLong fact (text_view text.now)) }
@@ -56,7 +56,7 @@ fn require_short(fact: Fact, text: &Option<ArcStr>) -> Result<(), FactFault<'sta
     }
 }
 
-/// Refuses the text of a fact above the limit.
+// Refuses the text of a fact above the limit.
 fn require_text(fact: Fact, text: &str) -> Result<(), FactFault<'static>>
     ensures found { OnOk result (IsWithin largest.text (Some text.now)) }
     ensures fault { IfErr result (IsLong fact (Some text.now)) }

@@ -38,7 +38,7 @@ pub fn push_shown(alloc: Global, text: &mut String, c: char) -> Result<(), Alloc
     text.push(c)
 }
 
-/// Whether the character with this code is invisible, or moves its neighbours.
+// Whether the character with this code is invisible, or moves its neighbours.
 fn is_hidden(code: u32) -> bool
     ensures { result ≡ is_hidden code }
 {

@@ -18,10 +18,10 @@ use crate::values::{Payloads, int64_at, payloads_of, text_at};
 use std::alloc::{AllocError, Global};
 use std::collections::BTreeMap;
 
-/// The field of an entry's key, by number (Protocol Buffers encoding guide, "Maps").
+// The field of an entry's key, by number (Protocol Buffers encoding guide, "Maps").
 const KEY: u32 = 1;
 
-/// The field of its value (the same section).
+// The field of its value (the same section).
 const VALUE: u32 = 2;
 
 static TEXT_ENTRY: [Key; 2] = keys![Len KEY, Len VALUE];
@@ -133,7 +133,7 @@ pub fn read_entries<'a, K: MapKey<'a>>(
     Ok(last_of_each(alloc, entries)?)
 }
 
-/// Reads the entries in the order of their payloads.
+// Reads the entries in the order of their payloads.
 fn read_each<'a, K: MapKey<'a>>(
     alloc: Global,
     payloads: &[&'a [u8]],
@@ -151,7 +151,7 @@ fn read_each<'a, K: MapKey<'a>>(
     Ok(entries)
 }
 
-/// Appends an entry to those that are read. Before the first, makes room for `room` entries.
+// Appends an entry to those that are read. Before the first, makes room for `room` entries.
 fn add_entry<'a, K: MapKey<'a>>(
     entries: &mut Vec<MapEntry<'a, K>>,
     entry: MapEntry<'a, K>,
@@ -166,7 +166,7 @@ fn add_entry<'a, K: MapKey<'a>>(
     Ok(())
 }
 
-/// Reads one entry from its payload.
+// Reads one entry from its payload.
 fn read_entry<'a, K: MapKey<'a>>(
     alloc: Global,
     payload: &'a [u8],
@@ -182,7 +182,7 @@ fn read_entry<'a, K: MapKey<'a>>(
     Ok((key, parts))
 }
 
-/// Whether the keys ascend, as most writers of maps write them. If they do, no key is repeated.
+// Whether the keys ascend, as most writers of maps write them. If they do, no key is repeated.
 fn is_ascending<'a, K: MapKey<'a>>(entries: &[MapEntry<'a, K>]) -> bool
     ensures { MatchBool result
         (T (is_sorted (key_cmp K.kind) (entries_view K.kind K.key_view entries.now))) (Unit {0}) }
@@ -197,7 +197,7 @@ fn is_ascending<'a, K: MapKey<'a>>(entries: &[MapEntry<'a, K>]) -> bool
     true
 }
 
-/// The last entry of each key, in ascending order of keys.
+// The last entry of each key, in ascending order of keys.
 fn last_of_each<'a, K: MapKey<'a>>(
     alloc: Global,
     all: Vec<MapEntry<'a, K>>,
@@ -212,7 +212,7 @@ fn last_of_each<'a, K: MapKey<'a>>(
     list_of(alloc, last)
 }
 
-/// Puts an entry into the map, and replaces an earlier one with the same key.
+// Puts an entry into the map, and replaces an earlier one with the same key.
 fn put_entry<'a, K: MapKey<'a>>(
     map: &mut BTreeMap<K, Payloads<'a>>,
     entry: MapEntry<'a, K>,
@@ -225,7 +225,7 @@ fn put_entry<'a, K: MapKey<'a>>(
     Ok(())
 }
 
-/// The entries of the map in order.
+// The entries of the map in order.
 fn list_of<'a, K: MapKey<'a>>(
     alloc: Global,
     mut map: BTreeMap<K, Payloads<'a>>,

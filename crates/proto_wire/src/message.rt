@@ -88,8 +88,8 @@ pub fn read_message_at<'a>(
     Ok(fields)
 }
 
-/// Refuses fields if some has none of the keys: `UnknownField`, which names the first such field. It takes no
-/// memory.
+// Refuses fields if some has none of the keys: `UnknownField`, which names the first such field. It takes no
+// memory.
 fn require_known(fields: &[Field<'_>], keys: &[Key]) -> Result<(), Fault>
     ensures found { OnOk result (AllKnown keys.now (map field_view fields.now)) }
     ensures fault { IfErr result (λ f.
@@ -113,7 +113,7 @@ pub fn require_level(depth: u32) -> Result<(), Refusal>
     Ok(())
 }
 
-/// Appends the fields of a payload.
+// Appends the fields of a payload.
 fn append_fields<'a>(bytes: &'a [u8], fields: &mut MessageFields<'a>) -> Result<(), Refusal>
     ensures found { OnOk result ((fs : List Wire) × Fields bytes.now fs
         × (map field_view fields.new.items ≡ map field_view fields.old.items ++ fs)) }
@@ -127,7 +127,7 @@ fn append_fields<'a>(bytes: &'a [u8], fields: &mut MessageFields<'a>) -> Result<
     Ok(())
 }
 
-/// Appends a field.
+// Appends a field.
 #[inline(always)]
 fn add_field<'a>(fields: &mut MessageFields<'a>, field: Field<'a>) -> Result<(), AllocError>
     ensures { OnOk result (fields.new.items ≡ fields.old.items ++ field.entry ∷ []) }
@@ -139,8 +139,8 @@ fn add_field<'a>(fields: &mut MessageFields<'a>, field: Field<'a>) -> Result<(),
     Ok(())
 }
 
-/// Makes room for half as many fields again. Doubled, the list would take twice the memory that the
-/// fields of a hostile message need.
+// Makes room for half as many fields again. Doubled, the list would take twice the memory that the
+// fields of a hostile message need.
 #[cold]
 #[inline(never)]
 fn grow(fields: &mut MessageFields<'_>) -> Result<(), AllocError>

@@ -54,8 +54,8 @@ pub fn member_run<'a>(
     Ok(run)
 }
 
-/// Adds a member's field to the run if it has the run's number; otherwise begins a new run with it. Before it
-/// adds a second field to a run, it makes room for `room` more.
+// Adds a member's field to the run if it has the run's number; otherwise begins a new run with it. Before it
+// adds a second field to a run, it makes room for `room` more.
 fn push_member<'a>(run: &mut MemberRun<'a>, field: Field<'a>, room: usize) -> Result<(), AllocError>
     ensures { OnOk result (map field_view run.new.items
         ≡ run_with (map field_view run.old.items) (field_view field.entry)) }

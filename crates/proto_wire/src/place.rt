@@ -14,13 +14,13 @@ pub struct Step {
 /// How many steps a place has room for.
 pub const MOST_STEPS: usize = 6;
 
-/// A number of a field that has room in a step is below this one.
+// A number of a field that has room in a step is below this one.
 const NUMBERS: u32 = 256;
 
-/// A position that has room in a step is below this one.
+// A position that has room in a step is below this one.
 const POSITIONS: usize = 16_777_216;
 
-/// The end of a place that was cut short; it is no field's number.
+// The end of a place that was cut short; it is no field's number.
 const CUT_SHORT: u32 = 536_870_912;
 
 /// A part of a message: the outermost steps to it, at most six, and the field of it that is named. A place that
@@ -97,7 +97,7 @@ impl Place {
     }
 }
 
-/// The word of a step, if it has room.
+// The word of a step, if it has room.
 fn word_of(number: u32, position: usize) -> Option<u32>
     ensures { MatchOption result (¬ (HasRoom number position)) (λ word. HasRoom number position
         × (word ≢ 0) × (step_in word ≡ record { number = number; position = position })) }
@@ -108,7 +108,7 @@ fn word_of(number: u32, position: usize) -> Option<u32>
     Some(position as u32 * NUMBERS + number)
 }
 
-/// The step in a word.
+// The step in a word.
 fn step_in(word: u32) -> Step
     ensures { result ≡ step_in word }
 {
@@ -118,14 +118,14 @@ fn step_in(word: u32) -> Step
     }
 }
 
-/// Whether no word is 0.
+// Whether no word is 0.
 fn is_full(words: &[u32; MOST_STEPS]) -> bool
     ensures { MatchBool result (6 ≤ length (steps_in words.now)) (length (steps_in words.now) < 6) }
 {
     !words.contains(&0)
 }
 
-/// The words after this one, without the last of them.
+// The words after this one, without the last of them.
 fn with_first(word: u32, words: &[u32; MOST_STEPS]) -> [u32; MOST_STEPS]
     ensures { result ≡ word ∷ take 5 words.now }
 {

@@ -8,7 +8,7 @@ use crate::fault::WireError;
 use crate::field::{Field, Payload};
 use crate::varint::read_varint;
 
-/// The greatest number of a field, 2^29 - 1.
+// The greatest number of a field, 2^29 - 1.
 const GREATEST_NUMBER: u64 = 536_870_911;
 
 /// The field that `bytes` begin with, and the bytes after it.
@@ -26,7 +26,7 @@ pub(crate) fn read_field(bytes: &[u8]) -> Result<(Field<'_>, &[u8]), WireError>
     Ok((Field { number, payload }, rest))
 }
 
-/// The payload of the wire type that `bytes` begin with, and the bytes after it.
+// The payload of the wire type that `bytes` begin with, and the bytes after it.
 fn read_payload(wire_type: u64, bytes: &[u8]) -> Result<(Payload<'_>, &[u8]), WireError>
     ensures found { IfOk result (λ read.
         StartsPayload wire_type bytes.now (payload_view read.0) read.1.now) }

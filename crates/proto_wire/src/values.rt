@@ -59,7 +59,7 @@ pub fn payloads_of<'a>(
     Ok(parts)
 }
 
-/// Appends one of the payloads of this number in the fields. Before the second, makes room for all.
+// Appends one of the payloads of this number in the fields. Before the second, makes room for all.
 #[inline(always)]
 fn add_payload<'a>(
     parts: &mut Payloads<'a>,
@@ -76,7 +76,7 @@ fn add_payload<'a>(
     Ok(())
 }
 
-/// How many LEN fields have this number. No contract mentions it: it only says how much room to make.
+// How many LEN fields have this number. No contract mentions it: it only says how much room to make.
 #[cold]
 #[inline(never)]
 fn payload_count(fields: &[Field<'_>], number: u32) -> usize {

@@ -5,10 +5,10 @@ ghost use Rattle.proto_wire.specs.Varint.{StartsVarint, FailsVarint};
 
 use crate::fault::WireError;
 
-/// The index of the last byte that a varint may have.
+// The index of the last byte that a varint may have.
 const LAST: usize = 9;
 
-/// The greatest value of that byte: 63 bits come before it.
+// The greatest value of that byte: 63 bits come before it.
 const LAST_MOST: u8 = 1;
 
 /// The number that `bytes` begin with, and the bytes after it.

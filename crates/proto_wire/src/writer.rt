@@ -8,10 +8,10 @@ ghost use Rattle.proto_wire.specs.private.Writing.{Keeps, AppendsVarint};
 use std::alloc::AllocError;
 use std::marker::Model;
 
-/// The number of VARINT in the low three bits of a tag.
+// The number of VARINT in the low three bits of a tag.
 const VARINT: u64 = 0;
 
-/// The number of LEN.
+// The number of LEN.
 const LEN: u64 = 2;
 
 /// Appends fields to a vector of bytes. Each call writes the whole field; if memory runs out, it
@@ -85,7 +85,7 @@ impl Writer {
         self.bytes(number, message)
     }
 
-    /// If a call failed, drops what it wrote after the first `start` bytes.
+    // If a call failed, drops what it wrote after the first `start` bytes.
     fn keep_whole(
         &mut self,
         start: usize,
@@ -123,7 +123,7 @@ fn append_len_field(out: &mut Vec<u8>, number: u32, bytes: &[u8]) -> Result<(), 
     out.extend_from_slice(bytes)
 }
 
-/// Appends the number, seven bits to a byte, the lowest first.
+// Appends the number, seven bits to a byte, the lowest first.
 fn append_varint(out: &mut Vec<u8>, value: u64) -> Result<(), AllocError>
     ensures written { OnOk result (AppendsVarint out.old.items value out.new.items) }
     ensures kept { Keeps out.old.items out.new.items }

@@ -57,7 +57,7 @@ pub(crate) fn take_bytes(
     Ok((answers, Some(front), answered_asks))
 }
 
-/// The front that has read the bytes, the answers to the asks that they complete, and the asks with the answers.
+// The front that has read the bytes, the answers to the asks that they complete, and the asks with the answers.
 fn answer_asks(
     alloc: Global,
     client: &Client,
@@ -79,7 +79,7 @@ fn answer_asks(
     Ok((front, out, answered_asks))
 }
 
-/// Appends the answer to an ask, and returns it.
+// Appends the answer to an ask, and returns it.
 fn answer_to(
     alloc: Global,
     client: &Client,
@@ -97,7 +97,7 @@ fn answer_to(
     Ok(reply)
 }
 
-/// The answer to an ask. If no filter is tried, it takes no memory.
+// The answer to an ask. If no filter is tried, it takes no memory.
 fn reply_to(alloc: Global, client: &Client, ask: &Ask) -> Result<Reply, AllocError>
     requires { AskInLimits (client_view client.now).config.limits ask.now }
     ensures found { IfOk result (λ reply. IsReplyTo DecidesAsWritten AsksAsWritten

@@ -44,7 +44,7 @@ pub(crate) fn judged(
     }
 }
 
-/// Whether each filter has policies.
+// Whether each filter has policies.
 fn is_ready(policies: &[Option<Admitted>]) -> bool
     ensures { MatchBool result
         (IsUnready DecidesAsWritten AsksAsWritten (policies_view policies.now) → ⊥)
@@ -58,7 +58,7 @@ fn is_ready(policies: &[Option<Admitted>]) -> bool
     true
 }
 
-/// Tries the filters in order, up to the first that refuses.
+// Tries the filters in order, up to the first that refuses.
 fn try_all(
     alloc: Global,
     policies: &[Option<Admitted>],

@@ -18,11 +18,11 @@ use attributes::Conn;
 use http_front::Front;
 use std::alloc::{AllocError, Global};
 
-/// The greatest number of connections.
+// The greatest number of connections.
 const PLACES: u64 = 8;
 
 impl Output {
-    /// The output that sends and closes nothing.
+    // The output that sends and closes nothing.
     fn none(alloc: Global) -> Output
         ensures { output_view result ≡ no_output }
     {
@@ -34,7 +34,7 @@ impl Output {
         }
     }
 
-    /// The output that only sends bytes on the update stream, and may close it.
+    // The output that only sends bytes on the update stream, and may close it.
     fn on_ads(alloc: Global, ads: Vec<u8>, ads_close: bool) -> Output
         ensures { output_view result ≡ ads_output ads.items ads_close }
     {
@@ -46,7 +46,7 @@ impl Output {
         }
     }
 
-    /// The output that only sends bytes on the event's connection, and may close it.
+    // The output that only sends bytes on the event's connection, and may close it.
     fn on_http(alloc: Global, http: Vec<u8>, http_close: bool) -> Output
         ensures { output_view result ≡ http_output http.items http_close }
     {
@@ -130,7 +130,7 @@ impl Proxy {
         Ok((output, fed.judgements, fed.ended))
     }
 
-    /// The update stream comes up.
+    // The update stream comes up.
     fn ads_up(&mut self) -> Result<Output, AllocError>
         ensures found { IfOk result (λ out.
             StepsBy (proxy_view self.old) ads_up (output_view out) (proxy_view self.new)) }
@@ -140,7 +140,7 @@ impl Proxy {
         Ok(Output::on_ads(self.alloc, ads, false))
     }
 
-    /// The update stream delivers bytes. If it is not up, no memory is taken.
+    // The update stream delivers bytes. If it is not up, no memory is taken.
     fn ads_bytes(&mut self, bytes: &[u8]) -> Result<Output, AllocError>
         ensures found { IfOk result (λ out. TakesAds (client_view self.old.client).stream (proxy_view self.old) bytes.now
             (output_view out) (proxy_view self.new)) }
@@ -153,8 +153,8 @@ impl Proxy {
         }
     }
 
-    /// A connection opens in place `k`; it is closed at once if its facts are outside the limits. If it does not open, no
-    /// memory is taken.
+    // A connection opens in place `k`; it is closed at once if its facts are outside the limits. If it does not open, no
+    // memory is taken.
     fn http_open(&mut self, k: u64, conn: &Conn) -> Result<Output, AllocError>
         ensures found { IfOk result (λ out.
             OpensAt (proxy_view self.old) k (conn_view conn.now) (output_view out) (proxy_view self.new)) }
@@ -170,7 +170,7 @@ impl Proxy {
         Ok(Output::on_http(self.alloc, Vec::new(self.alloc), http_close))
     }
 
-    /// A connection delivers bytes. If it is not open, no memory is taken.
+    // A connection delivers bytes. If it is not open, no memory is taken.
     fn http_bytes(&mut self, k: u64, bytes: &[u8]) -> Result<Output, AllocError>
         ensures found { IfOk result (λ out. TakesHttp (front_at (proxy_view self.old) k) (proxy_view self.old) k bytes.now
             (output_view out) (proxy_view self.new)) }
@@ -190,8 +190,8 @@ impl Proxy {
         Ok(Output::on_http(self.alloc, http, http_close))
     }
 
-    /// Takes the bytes if the connection is open and they complete no ask, and returns whether it took them. If it did
-    /// not, and after an error, all is as before the call. If the connection is not open, no memory is taken.
+    // Takes the bytes if the connection is open and they complete no ask, and returns whether it took them. If it did
+    // not, and after an error, all is as before the call. If the connection is not open, no memory is taken.
     fn keeps(&mut self, k: u64, bytes: &[u8]) -> Result<bool, AllocError>
         ensures kept { IfOk result (λ kept. MatchBool kept
             (KeepsAt (proxy_view self.old) k bytes.now (proxy_view self.new))
@@ -207,7 +207,7 @@ impl Proxy {
         kept
     }
 
-    /// Takes the front out of a place.
+    // Takes the front out of a place.
     fn take(&mut self, k: u64) -> Option<Front>
         ensures taken { result ≡ front_at (proxy_view self.old) k }
         ensures fits { IsOpenFor (client_view self.old.client).config.limits result }
@@ -220,7 +220,7 @@ impl Proxy {
         None
     }
 
-    /// The front in a place, if a connection is open there.
+    // The front in a place, if a connection is open there.
     fn front(&self, k: u64) -> Option<&Front>
         ensures found { let found = front_at (proxy_view self.now) k in
             MatchOption result (found ≡ None) (λ f. found ≡ Some f.now) }
@@ -233,7 +233,7 @@ impl Proxy {
         }
     }
 
-    /// Puts a front, or none, in a place; if there is no such place, nothing changes.
+    // Puts a front, or none, in a place; if there is no such place, nothing changes.
     fn put(&mut self, k: u64, front: Option<Front>)
         requires { IsOpenFor (client_view self.old.client).config.limits front }
         ensures put { proxy_view self.new ≡ with_conn (proxy_view self.old) k front }

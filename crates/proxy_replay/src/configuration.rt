@@ -132,7 +132,7 @@ pub fn config_at(alloc: Global, value: &Value) -> Result<Config, ConfigTextFault
     sound_config(alloc, node, cluster, filters, limits)
 }
 
-/// The configuration with these parts, if they are allowed.
+// The configuration with these parts, if they are allowed.
 fn sound_config(
     alloc: Global,
     node: String,
@@ -150,7 +150,7 @@ fn sound_config(
     }
 }
 
-/// The fault of the text for a fault of a configuration's parts.
+// The fault of the text for a fault of a configuration's parts.
 fn text_fault(fault: ConfigFault) -> ConfigTextFault
     ensures { result ≡ Bad → fault ≢ ConfigFault.Memory }
 {
@@ -164,7 +164,7 @@ fn text_fault(fault: ConfigFault) -> ConfigTextFault
     }
 }
 
-/// The filters of these JSON values.
+// The filters of these JSON values.
 fn filters_of(alloc: Global, items: &[Value]) -> Result<Vec<Filter>, ConfigTextFault>
     ensures found { IfOk result (λ v. AllZip IsFilterObject (values (items_view items.now)) (filters_view v.items)) }
     ensures fault { IfErr result (λ e. e ≡ Bad
@@ -178,7 +178,7 @@ fn filters_of(alloc: Global, items: &[Value]) -> Result<Vec<Filter>, ConfigTextF
     Ok(filters)
 }
 
-/// The filter of a JSON value.
+// The filter of a JSON value.
 fn filter_of(alloc: Global, value: &Value) -> Result<Filter, ConfigTextFault>
     ensures found { IfOk result (λ f. IsFilterObject (view value.now) (filter_view f)) }
     ensures fault { IfErr result (λ e. e ≡ Bad → (f : FilterValue) → ¬ IsFilterObject (view value.now) f) }
@@ -192,7 +192,7 @@ fn filter_of(alloc: Global, value: &Value) -> Result<Filter, ConfigTextFault>
     Ok(Filter { name, budget })
 }
 
-/// The limits that a configuration declares; the greatest if it declares none.
+// The limits that a configuration declares; the greatest if it declares none.
 fn limits_at(value: &Value) -> Result<Limits, InvalidValue>
     ensures found { IfOk result (AreDeclared (get (codes "limits") (view value.now))) }
     ensures fault { OnErr result ((l : LimitsValue) → ¬ AreDeclared (get (codes "limits") (view value.now)) l) }
@@ -203,7 +203,7 @@ fn limits_at(value: &Value) -> Result<Limits, InvalidValue>
     }
 }
 
-/// The limits that a JSON object declares.
+// The limits that a JSON object declares.
 fn declared_limits(object: &Value) -> Result<Limits, InvalidValue>
     ensures found { IfOk result (DeclaresLimits (view object.now)) }
     ensures fault { OnErr result ((l : LimitsValue) → ¬ DeclaresLimits (view object.now) l) }
@@ -228,7 +228,7 @@ pub(crate) fn limit_at(object: &Value, name: &str, limit: Limit) -> Result<usize
     Ok(number_or(object, name, greatest as u64)? as usize)
 }
 
-/// Limits as declared, if none of them is 0 or above the greatest.
+// Limits as declared, if none of them is 0 or above the greatest.
 fn sound_limits(
     fields: usize,
     name: usize,

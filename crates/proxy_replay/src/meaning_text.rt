@@ -7,7 +7,7 @@ use program_texts::{InvalidValue, is_among, items_at, number_or, str_at};
 use serde_json::Value;
 use std::alloc::{AllocError, Global};
 
-/// How many causes are told, at most.
+// How many causes are told, at most.
 const MOST_CAUSES: usize = 16;
 
 /// The meaning of a configuration, in lines for its author.
@@ -25,7 +25,7 @@ pub fn config_text(alloc: Global, config: &Config) -> Result<String, AllocError>
     Ok(text)
 }
 
-/// The line of the limits.
+// The line of the limits.
 fn limits_text(alloc: Global, limits: &Limits) -> Result<String, AllocError> {
     let (fields, name, value) = (
         limits.get(Limit::Fields),
@@ -100,7 +100,7 @@ pub fn causes_of_bad_settings(alloc: Global, value: &Value) -> Result<Vec<String
     Ok(causes)
 }
 
-/// Adds a cause, if there is one.
+// Adds a cause, if there is one.
 fn note(causes: &mut Vec<String>, cause: Option<String>) -> Result<(), AllocError> {
     if let Some(cause) = cause {
         causes.push(cause)?;
@@ -108,7 +108,7 @@ fn note(causes: &mut Vec<String>, cause: Option<String>) -> Result<(), AllocErro
     Ok(())
 }
 
-/// The fault of the node or the cluster, if it has one.
+// The fault of the node or the cluster, if it has one.
 fn cause_of_text(alloc: Global, value: &Value, name: &str) -> Result<Option<String>, AllocError> {
     match str_at(value, name) {
         Ok(text) if text.len() <= 256 => Ok(None),
@@ -117,7 +117,7 @@ fn cause_of_text(alloc: Global, value: &Value, name: &str) -> Result<Option<Stri
     }
 }
 
-/// Why the names of an object's members are not all among these.
+// Why the names of an object's members are not all among these.
 fn cause_of_names(
     alloc: Global,
     value: &Value,
@@ -135,7 +135,7 @@ fn cause_of_names(
     Ok(None)
 }
 
-/// The fault of declared limits, if they have one.
+// The fault of declared limits, if they have one.
 fn cause_of_limits(alloc: Global, value: &Value) -> Result<Option<String>, AllocError> {
     let Some(limits) = value.get("limits") else {
         return Ok(None);
@@ -164,7 +164,7 @@ fn cause_of_limits(alloc: Global, value: &Value) -> Result<Option<String>, Alloc
     Ok(None)
 }
 
-/// Adds the fault of the number of filters, or the first fault of each filter.
+// Adds the fault of the number of filters, or the first fault of each filter.
 fn note_filters(
     alloc: Global,
     causes: &mut Vec<String>,
@@ -183,7 +183,7 @@ fn note_filters(
     Ok(())
 }
 
-/// The fault of this filter, if it has one.
+// The fault of this filter, if it has one.
 fn cause_of_filter(alloc: Global, item: &Value) -> Result<Option<String>, AllocError> {
     if let Some(cause) = cause_of_names(alloc, item, &FILTER_NAMES)? {
         return Ok(Some(cause));
@@ -205,7 +205,7 @@ fn cause_of_filter(alloc: Global, item: &Value) -> Result<Option<String>, AllocE
     Ok(None)
 }
 
-/// Whether a member is absent, or a number from 1 to the greatest.
+// Whether a member is absent, or a number from 1 to the greatest.
 fn is_number_to(item: &Value, name: &str, greatest: u64) -> bool {
     matches!(number_or(item, name, greatest), Ok(number) if number > 0 && number <= greatest)
 }

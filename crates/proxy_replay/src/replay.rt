@@ -18,7 +18,7 @@ use proxy_core::Proxy;
 use std::alloc::{AllocError, Global};
 use std::io::{self, BufRead, ErrorKind, Write};
 
-/// A proxy, and the connection that alone is replayed, if one is named.
+// A proxy, and the connection that alone is replayed, if one is named.
 #[derive(Drop)]
 struct Core {
     proxy: Proxy,
@@ -52,7 +52,7 @@ pub fn replay<R: BufRead, W: Write>(
     Err(ReplayFault::Input(io::Error::from(ErrorKind::TimedOut)))
 }
 
-/// The next line of the input, with its line feed, if there is one.
+// The next line of the input, with its line feed, if there is one.
 fn read_line<R: BufRead>(alloc: Global, input: &mut R) -> Result<Option<Vec<u8>>, ReplayFault>
     ensures found { IfOk result (λ found.
         IsSomeLine (option_map (λ v. v.items) found) (R.remaining input.old) (R.remaining input.new)) }
@@ -66,7 +66,7 @@ fn read_line<R: BufRead>(alloc: Global, input: &mut R) -> Result<Option<Vec<u8>>
     }
 }
 
-/// Prints the answer to the event of this line.
+// Prints the answer to the event of this line.
 fn answer_line<W: Write>(
     alloc: Global,
     core: &mut Core,
@@ -90,7 +90,7 @@ fn answer_line<W: Write>(
     }
 }
 
-/// The line that answers the event of this line. It is empty if the event is not seen.
+// The line that answers the event of this line. It is empty if the event is not seen.
 fn answer(alloc: Global, core: &mut Core, line: &[u8]) -> Result<String, LineFault>
     ensures only { core.new.only ≡ core.old.only }
     ensures found { IfOk result (λ text. Answers core.old.only (proxy_view core.old.proxy) line.now (string_bytes text)
@@ -111,7 +111,7 @@ fn answer(alloc: Global, core: &mut Core, line: &[u8]) -> Result<String, LineFau
     }
 }
 
-/// The event of a line's bytes.
+// The event of a line's bytes.
 fn event_of(alloc: Global, line: &[u8]) -> Result<LineEvent, LineFault>
     ensures found { IfOk result (λ event. IsLineText line.now (line_view event)) }
     ensures fault { IfErr result (λ e. e ≡ BadLine → (event : EventValue) → ¬ IsLineText line.now event) }

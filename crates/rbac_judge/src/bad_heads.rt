@@ -20,7 +20,7 @@ pub(crate) fn passed_limit(alloc: Global, head: &[u8]) -> Result<Option<String>,
     passed_by_fields(alloc, fields)
 }
 
-/// The first line of a head and the lines of its fields, without line ends.
+// The first line of a head and the lines of its fields, without line ends.
 fn lines_of<'a>(alloc: Global, head: &'a [u8]) -> Result<Vec<&'a [u8]>, AllocError> {
     let mut lines = Vec::new(alloc);
     for line in head.split(|byte| *byte == b'\n') {
@@ -34,7 +34,7 @@ fn lines_of<'a>(alloc: Global, head: &'a [u8]) -> Result<Vec<&'a [u8]>, AllocErr
     Ok(lines)
 }
 
-/// The part of these fields that exceeds its limit.
+// The part of these fields that exceeds its limit.
 fn passed_by_fields(alloc: Global, fields: &[&[u8]]) -> Result<Option<String>, AllocError> {
     let (count, most) = (
         fields.len().saturating_add(3),
@@ -59,7 +59,7 @@ fn passed_by_fields(alloc: Global, fields: &[&[u8]]) -> Result<Option<String>, A
     Ok(None)
 }
 
-/// The words for a text that exceeds its limit; None if it does not.
+// The words for a text that exceeds its limit; None if it does not.
 fn above(
     alloc: Global,
     what: &str,
@@ -73,18 +73,18 @@ fn above(
     Ok(Some(format!(in alloc; "{what} has {count} bytes; it may have {most}")?))
 }
 
-/// The name of a field, which ends at a colon.
+// The name of a field, which ends at a colon.
 fn name_of(field: &[u8]) -> &[u8] {
     field.split(|byte| *byte == b':').next().unwrap_or(&[])
 }
 
-/// The value of a field, without the white space around it.
+// The value of a field, without the white space around it.
 fn value_of(field: &[u8]) -> &[u8] {
     let start = name_of(field).len().saturating_add(1);
     field.get(start..).unwrap_or(&[]).trim_ascii()
 }
 
-/// The length in bytes of the values of all fields with this name, joined by commas.
+// The length in bytes of the values of all fields with this name, joined by commas.
 fn joined_length(fields: &[&[u8]], name: &[u8]) -> usize {
     let mut count: usize = 0;
     let mut is_first = true;

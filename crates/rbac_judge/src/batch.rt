@@ -79,7 +79,7 @@ pub fn batch<R: BufRead, W: Write>(
     Err(ReplayFault::Input(io::Error::from(ErrorKind::TimedOut)))
 }
 
-/// The next line of the input, if there is one. If the input fails, the answers that are collected are written.
+// The next line of the input, if there is one. If the input fails, the answers that are collected are written.
 fn next_line<R: BufRead, W: Write>(
     alloc: Global,
     input: &mut R,
@@ -100,8 +100,8 @@ fn next_line<R: BufRead, W: Write>(
     }
 }
 
-/// Collects an answer. Writes the answers that are collected if they are as many as are written at once, or if there is
-/// no memory for one more.
+// Collects an answer. Writes the answers that are collected if they are as many as are written at once, or if there is
+// no memory for one more.
 fn put_answer<W: Write>(
     pending: &mut Vec<u8>,
     answer: &[u8],
@@ -122,7 +122,7 @@ fn put_answer<W: Write>(
     }
 }
 
-/// Writes the answers that are collected, if they are as many as are written at once.
+// Writes the answers that are collected, if they are as many as are written at once.
 fn make_room<W: Write>(pending: &mut Vec<u8>, out: &mut W) -> Result<(), ReplayFault>
     ensures written { OnOk result ((done : List ℕ)
         × (pending.old.items ≡ done ++ pending.new.items)
@@ -135,7 +135,7 @@ fn make_room<W: Write>(pending: &mut Vec<u8>, out: &mut W) -> Result<(), ReplayF
     write_pending(pending, out)
 }
 
-/// Writes the answers that are collected, after which none is.
+// Writes the answers that are collected, after which none is.
 fn write_pending<W: Write>(pending: &mut Vec<u8>, out: &mut W) -> Result<(), ReplayFault>
     ensures written { OnOk result (Appends (W.contents out.old) (W.contents out.new) pending.old.items) }
     ensures none { OnOk result (pending.new.items ≡ []) }
@@ -146,7 +146,7 @@ fn write_pending<W: Write>(pending: &mut Vec<u8>, out: &mut W) -> Result<(), Rep
     Ok(())
 }
 
-/// Writes the answers that are collected.
+// Writes the answers that are collected.
 fn write_all<W: Write>(pending: &[u8], out: &mut W) -> Result<(), ReplayFault>
     ensures written { OnOk result (Appends (W.contents out.old) (W.contents out.new) pending.now) }
     ensures fault { IfErr result (BreaksOutput (W.contents out.old) (W.contents out.new) pending.now) }
@@ -157,7 +157,7 @@ fn write_all<W: Write>(pending: &[u8], out: &mut W) -> Result<(), ReplayFault>
     }
 }
 
-/// The line that answers a line, or that memory ran out for it.
+// The line that answers a line, or that memory ran out for it.
 fn bytes_of(answered: &Result<Vec<u8>, AllocError>) -> &[u8]
     ensures answer { IfOk answered.now (λ text. result.now ≡ text.items) }
     ensures memory { OnErr answered.now ((report : Report) → report.json ≡ true
@@ -169,7 +169,7 @@ fn bytes_of(answered: &Result<Vec<u8>, AllocError>) -> &[u8]
     }
 }
 
-/// The line that answers this line: the report on its head, or why it has none.
+// The line that answers this line: the report on its head, or why it has none.
 fn answer(
     alloc: Global,
     basis: &BatchSettings,
@@ -190,7 +190,7 @@ fn answer(
     }
 }
 
-/// The line that answers a line with these bytes. Its first member is the line's id, if it has one.
+// The line that answers a line with these bytes. Its first member is the line's id, if it has one.
 fn answer_to_bytes(
     alloc: Global,
     basis: &BatchSettings,
@@ -216,7 +216,7 @@ fn answer_to_bytes(
     }
 }
 
-/// The line that answers a line with this JSON value, without the line's id.
+// The line that answers a line with this JSON value, without the line's id.
 fn answer_to_value(
     alloc: Global,
     basis: &BatchSettings,
@@ -237,7 +237,7 @@ fn answer_to_value(
     }
 }
 
-/// The text of an object, with the id as its first member, if there is one.
+// The text of an object, with the id as its first member, if there is one.
 fn with_id(alloc: Global, id: Option<&Value>, text: String) -> Result<Vec<u8>, AllocError>
     requires { IfSome id (λ v. depth (view v.now) ≤ max_depth) }
     ensures { IfOk result (λ line. (reported : Option (List ℕ))
@@ -250,7 +250,7 @@ fn with_id(alloc: Global, id: Option<&Value>, text: String) -> Result<Vec<u8>, A
     }
 }
 
-/// The text of an object, with this value as the first member `id`.
+// The text of an object, with this value as the first member `id`.
 fn with_value(alloc: Global, value: &Value, text: &[u8]) -> Result<Vec<u8>, AllocError>
     requires { depth (view value.now) ≤ max_depth }
     ensures { IfOk result (λ line. (id : List ℕ) × (read id ≡ Some (view value.now))
@@ -265,14 +265,14 @@ fn with_value(alloc: Global, value: &Value, text: &[u8]) -> Result<Vec<u8>, Allo
     Ok(line)
 }
 
-/// The bytes without the first, if there is one.
+// The bytes without the first, if there is one.
 fn without_first(bytes: &[u8]) -> &[u8]
     ensures { result.now ≡ drop 1 bytes.now }
 {
     &bytes[bytes.len().min(1)..]
 }
 
-/// The line that answers a line without a head.
+// The line that answers a line without a head.
 fn bad_text(alloc: Global, number: u64, cause: &str) -> Result<String, AllocError>
     ensures { IfOk result (λ text. string_bytes text ≡ compact_text (bad_json number cause.now) ++ 10 ∷ []) }
 {
@@ -282,14 +282,14 @@ fn bad_text(alloc: Global, number: u64, cause: &str) -> Result<String, AllocErro
     Ok(text)
 }
 
-/// The object that answers a line without a head.
+// The object that answers a line without a head.
 fn bad_value(alloc: Global, number: u64, cause: &str) -> Result<Value, AllocError>
     ensures { IfOk result (λ value. view value ≡ bad_json number cause.now) }
 {
     json!(in alloc; {"cause": cause, "line": number})
 }
 
-/// The report on the head of a JSON value.
+// The report on the head of a JSON value.
 fn report_of_value(alloc: Global, basis: &BatchSettings, value: &Value) -> Result<Report, LineFault>
     requires { limits_view basis.now.admitted ≡ largest }
     ensures found { IfOk result (IsReportAt (filter_view basis.now.admitted) basis.now.explain
@@ -305,7 +305,7 @@ fn report_of_value(alloc: Global, basis: &BatchSettings, value: &Value) -> Resul
     Ok(report_of_head(alloc, basis, head.as_bytes(), conn)?)
 }
 
-/// The connection with the facts of the member `facts`; this one if there is no such member.
+// The connection with the facts of the member `facts`; this one if there is no such member.
 fn facts_or(alloc: Global, object: &Value, absent: &Conn) -> Result<Conn, LineFault>
     ensures found { IfOk result (λ conn. AreFactsOr (conn_view absent.now)
         (get (codes "facts") (view object.now)) (conn_view conn)) }
@@ -322,7 +322,7 @@ fn facts_or(alloc: Global, object: &Value, absent: &Conn) -> Result<Conn, LineFa
     }
 }
 
-/// The report on a head that arrives on this connection, as JSON.
+// The report on a head that arrives on this connection, as JSON.
 fn report_of_head(
     alloc: Global,
     basis: &BatchSettings,
@@ -366,7 +366,7 @@ pub(crate) fn cause_of_no_json(
     }
 }
 
-/// Why a line with this JSON value has no head, in words for its author.
+// Why a line with this JSON value has no head, in words for its author.
 fn cause_of_no_head(alloc: Global, value: &Value) -> Result<String, AllocError> {
     if value.as_object().is_none() {
         return String::from_str(alloc, "it is not a JSON object");

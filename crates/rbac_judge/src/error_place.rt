@@ -10,10 +10,10 @@ use rbac_policy::{WrittenCondition, written_condition};
 use std::alloc::{AllocError, Global};
 use std::sync::ArcStr;
 
-/// How many characters of a text are reported at most.
+// How many characters of a text are reported at most.
 const SHOWN: usize = 100;
 
-/// How many steps the search for the part takes at most.
+// How many steps the search for the part takes at most.
 const MOST_STEPS: u64 = 10_000_000;
 
 /// Where the error of a condition begins for the request, such as
@@ -56,7 +56,7 @@ fn place_in_condition(
     }
 }
 
-/// A part of a condition: its node, the turns that it is in, and what is wrong there. A node of the id 0 is not named.
+// A part of a condition: its node, the turns that it is in, and what is wrong there. A node of the id 0 is not named.
 fn place_text(
     alloc: Global,
     name: &str,
@@ -71,7 +71,7 @@ fn place_text(
     }
 }
 
-/// The numbers of turns, those of the outermost comprehension first.
+// The numbers of turns, those of the outermost comprehension first.
 fn turns_text(alloc: Global, turns: &[usize]) -> Result<String, AllocError> {
     let mut text = String::new(alloc);
     for number in turns.iter().rev() {
@@ -81,7 +81,7 @@ fn turns_text(alloc: Global, turns: &[usize]) -> Result<String, AllocError> {
     Ok(text)
 }
 
-/// The id of a node.
+// The id of a node.
 fn id_of(tree: &Tree) -> i64 {
     match tree {
         Tree::Constant { id, .. } => *id,
@@ -94,7 +94,7 @@ fn id_of(tree: &Tree) -> i64 {
     }
 }
 
-/// What is wrong at a part that is an error, though its operands are none.
+// What is wrong at a part that is an error, though its operands are none.
 fn words_of(alloc: Global, place: &Place<'_>, request: &Request) -> Result<String, AllocError> {
     match place.part {
         Tree::Constant { .. } | Tree::List { .. } => String::from_str(alloc, "an error"),
@@ -111,13 +111,13 @@ fn words_of(alloc: Global, place: &Place<'_>, request: &Request) -> Result<Strin
     }
 }
 
-/// An attribute that the request lacks.
+// An attribute that the request lacks.
 fn words_of_attribute(alloc: Global, name: &ArcStr) -> Result<String, AllocError> {
     let name = name.as_str();
     format!(in alloc; "no attribute {name}")
 }
 
-/// A Select that is an error: of an attribute that the request lacks, or of a key that a map lacks.
+// A Select that is an error: of an attribute that the request lacks, or of a key that a map lacks.
 fn words_of_select(alloc: Global, operand: &Tree, field: &ArcStr) -> Result<String, AllocError> {
     let field = field.as_str();
     match operand {
@@ -129,12 +129,12 @@ fn words_of_select(alloc: Global, operand: &Tree, field: &ArcStr) -> Result<Stri
     }
 }
 
-/// Whether the name of a variable is a root of attributes, as `request`. A dotted name is that of an attribute.
+// Whether the name of a variable is a root of attributes, as `request`. A dotted name is that of an attribute.
 fn is_root(name: &str) -> bool {
     !name.as_bytes().contains(&b'.')
 }
 
-/// A call that is an error: of a key or an item that is not there, or of another function.
+// A call that is an error: of a key or an item that is not there, or of another function.
 fn words_of_call(
     alloc: Global,
     function: &str,
@@ -151,7 +151,7 @@ fn words_of_call(
     format!(in alloc; "the call of {function}")
 }
 
-/// A key or an index that is not there.
+// A key or an index that is not there.
 fn words_of_index(
     alloc: Global,
     key: &Result<Option<Placed<'_>>, Stopped>,
@@ -173,13 +173,13 @@ fn words_of_answer(alloc: Global, key: &Answer) -> Result<String, AllocError> {
     }
 }
 
-/// A key of a map that is not there.
+// A key of a map that is not there.
 fn words_of_key(alloc: Global, key: &str) -> Result<String, AllocError> {
     let key = shown(alloc, key)?;
     format!(in alloc; "no key {key}")
 }
 
-/// The first characters of the text in quotes, and `..` if more follow.
+// The first characters of the text in quotes, and `..` if more follow.
 fn shown(alloc: Global, text: &str) -> Result<String, AllocError> {
     match text.char_indices().nth(SHOWN) {
         Some((end, _)) => {

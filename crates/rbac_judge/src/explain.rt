@@ -13,7 +13,7 @@ use stack_machine::RunError;
 use std::alloc::{AllocError, Global};
 use std::fmt;
 
-/// How many causes of each side of a policy are reported at most.
+// How many causes of each side of a policy are reported at most.
 const CAUSES: usize = 8;
 
 /// Whether a verdict is explained, and the bytes of the policy file, in which errors of conditions are placed.
@@ -81,7 +81,7 @@ pub(crate) fn own_trials(
     Ok(own)
 }
 
-/// The trial, with a copy of the name, and with its causes.
+// The trial, with a copy of the name, and with its causes.
 fn own_trial(
     alloc: Global,
     policy: &[u8],
@@ -99,8 +99,8 @@ fn own_trial(
     })
 }
 
-/// The leaves that decide whether the sides of the trial's policy match the request, in words. If its condition is an
-/// error, the part of the condition that the error is from follows.
+// The leaves that decide whether the sides of the trial's policy match the request, in words. If its condition is an
+// error, the part of the condition that the error is from follows.
 fn causes_of(
     alloc: Global,
     policy: &[u8],
@@ -136,7 +136,7 @@ pub(crate) fn push_lines(
     Ok(())
 }
 
-/// The line of a trial, followed by those of its causes.
+// The line of a trial, followed by those of its causes.
 fn lines_of_trial(alloc: Global, trial: &OwnTrial) -> Result<String, AllocError>
     ensures { IfOk result (λ lines. string_bytes lines ≡ trial_lines (reported_trial_view trial.now)) }
 {
@@ -145,7 +145,7 @@ fn lines_of_trial(alloc: Global, trial: &OwnTrial) -> Result<String, AllocError>
     Ok(lines)
 }
 
-/// Appends a line for each of the causes.
+// Appends a line for each of the causes.
 fn push_causes(text: &mut String, causes: &[String]) -> Result<(), AllocError>
     ensures { OnOk result (string_bytes text.new
         ≡ string_bytes text.old ++ flat_map cause_line (map string_bytes causes.now)) }
@@ -156,7 +156,7 @@ fn push_causes(text: &mut String, causes: &[String]) -> Result<(), AllocError>
     Ok(())
 }
 
-/// Appends the line of a cause.
+// Appends the line of a cause.
 fn push_cause(text: &mut String, cause: &str) -> Result<(), AllocError>
     ensures { OnOk result (string_bytes text.new ≡ string_bytes text.old ++ cause_line cause.now) }
 {
@@ -165,7 +165,7 @@ fn push_cause(text: &mut String, cause: &str) -> Result<(), AllocError>
     text.push_str("\n")
 }
 
-/// The line of a trial, such as `0 "p": condition false`.
+// The line of a trial, such as `0 "p": condition false`.
 fn line_of_trial(alloc: Global, trial: &OwnTrial) -> Result<String, AllocError>
     ensures { IfOk result (λ line. string_bytes line ≡ trial_line (own_trial_view trial.now)) }
 {
@@ -173,7 +173,7 @@ fn line_of_trial(alloc: Global, trial: &OwnTrial) -> Result<String, AllocError>
     line_with(alloc, trial.number, name.as_str(), trial.reason)
 }
 
-/// The line of a trial whose name is quoted already.
+// The line of a trial whose name is quoted already.
 fn line_with(alloc: Global, number: usize, name: &str, reason: Reason) -> Result<String, AllocError>
     ensures { IfOk result (λ line. string_bytes line
         ≡ decimal number ++ 32 ∷ (name.now ++ codes ": " ++ reason_text reason ++ 10 ∷ [])) }
@@ -186,7 +186,7 @@ fn line_with(alloc: Global, number: usize, name: &str, reason: Reason) -> Result
     Ok(line)
 }
 
-/// A reason, to be printed in words.
+// A reason, to be printed in words.
 #[derive(Clone, Copy)]
 struct ReasonText {
     reason: Reason,
@@ -213,7 +213,7 @@ impl fmt::Display for ReasonText {
     }
 }
 
-/// The name in quotes, with its characters escaped.
+// The name in quotes, with its characters escaped.
 fn quoted(alloc: Global, name: &str) -> Result<String, AllocError>
     ensures { IfOk result (λ text. string_bytes text ≡ quoted name.now) }
 {
@@ -226,7 +226,7 @@ fn quoted(alloc: Global, name: &str) -> Result<String, AllocError>
     Ok(text)
 }
 
-/// Appends the character as it is written between quotes.
+// Appends the character as it is written between quotes.
 fn push_escaped(alloc: Global, text: &mut String, c: char) -> Result<(), AllocError>
     ensures { OnOk result (string_bytes text.new ≡ string_bytes text.old ++ escaped c) }
 {

@@ -42,7 +42,7 @@ pub(crate) fn read_head_line<R: BufRead>(
     Err(ReplayFault::Input(io::Error::from(ErrorKind::TimedOut)))
 }
 
-/// The line with this number of bytes, if it has any.
+// The line with this number of bytes, if it has any.
 fn line_of(line: Vec<u8>, count: usize) -> Option<HeadLine>
     ensures { IsHeadLineOf line.items count result }
 {
@@ -55,8 +55,8 @@ fn line_of(line: Vec<u8>, count: usize) -> Option<HeadLine>
     Some(HeadLine::Whole(line))
 }
 
-/// Takes bytes of a line from the input: those that are present, up to the line feed. Appends them to the line, if they
-/// are at most `room`. Returns how many they are, and whether the line or the input is at its end.
+// Takes bytes of a line from the input: those that are present, up to the line feed. Appends them to the line, if they
+// are at most `room`. Returns how many they are, and whether the line or the input is at its end.
 fn take_part<R: BufRead>(
     input: &mut R,
     room: usize,
@@ -87,7 +87,7 @@ fn take_part<R: BufRead>(
     Ok((end, is_done))
 }
 
-/// Appends the part to the line, if it has at most `room` bytes.
+// Appends the part to the line, if it has at most `room` bytes.
 fn append_within(line: &mut Vec<u8>, part: &[u8], room: usize) -> Result<(), AllocError>
     ensures { OnOk result (length part.now ≤ room → line.new.items ≡ line.old.items ++ part.now) }
 {
@@ -97,12 +97,12 @@ fn append_within(line: &mut Vec<u8>, part: &[u8], room: usize) -> Result<(), All
     line.extend_from_slice(part)
 }
 
-/// Whether a signal interrupted the read.
+// Whether a signal interrupted the read.
 fn is_interrupted(cause: &io::Error) -> bool {
     cause.kind() == ErrorKind::Interrupted
 }
 
-/// The number of bytes up to the first line feed and with it; that of all bytes if there is none.
+// The number of bytes up to the first line feed and with it; that of all bytes if there is none.
 fn len_through(bytes: &[u8]) -> usize
     ensures bound { result ≤ length bytes.now }
     ensures some { 0 < length bytes.now → 0 < result }

@@ -12,7 +12,7 @@ use program_texts::read_some;
 use std::alloc::Global;
 use std::io::{self, ErrorKind, Read};
 
-/// The greatest number of bytes of one read.
+// The greatest number of bytes of one read.
 const CHUNK: usize = 4_096;
 
 /// The ask of the head that the input begins with, on this connection; None if the input ends before its head does. It
@@ -33,7 +33,7 @@ pub(crate) fn read_ask<R: Read>(
     first_ask(&mut front, input)
 }
 
-/// The ask of the head that the input begins with, read by a new front, as in `read_ask`.
+// The ask of the head that the input begins with, read by a new front, as in `read_ask`.
 fn first_ask<R: Read>(front: &mut Front, input: &mut R) -> io::Result<Option<HeadAsk>>
     requires { front.old.kept ≡ reading 0 [] }
     ensures found { IfOk result (λ found. (bytes : List ℕ) × IsAllOf (R.remaining input.old) bytes
@@ -54,7 +54,7 @@ fn first_ask<R: Read>(front: &mut Front, input: &mut R) -> io::Result<Option<Hea
     Err(io::Error::from(ErrorKind::TimedOut))
 }
 
-/// The ask, without whether its connection closes.
+// The ask, without whether its connection closes.
 fn head_ask(ask: Ask) -> HeadAsk
     ensures { result ≡ head_ask ask }
 {
@@ -64,7 +64,7 @@ fn head_ask(ask: Ask) -> HeadAsk
     }
 }
 
-/// Feeds the front the bytes of one read, and returns their number: 0 at the end of the input.
+// Feeds the front the bytes of one read, and returns their number: 0 at the end of the input.
 fn read_chunk<R: Read>(input: &mut R, front: &mut Front) -> io::Result<usize>
     ensures { IfOk result (Feeds front.old front.new (R.remaining input.old)
         (R.remaining input.new)) }

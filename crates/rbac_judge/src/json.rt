@@ -59,14 +59,14 @@ pub(crate) fn value_of(
     }
 }
 
-/// The object of a policy that is admitted.
+// The object of a policy that is admitted.
 fn admitted_value(alloc: Global, policies: usize, bound: u64) -> Result<Value, AllocError>
     ensures { IfOk result (λ value. view value ≡ admitted_json policies bound) }
 {
     json!(in alloc; {"admitted": true, "policies": policies, "bound": bound})
 }
 
-/// The object of a verdict, with this word.
+// The object of a verdict, with this word.
 fn verdict_value(
     alloc: Global,
     word: &str,
@@ -84,7 +84,7 @@ fn verdict_value(
     }
 }
 
-/// The object of a verdict, with this word and without trials.
+// The object of a verdict, with this word and without trials.
 fn plain_value(
     alloc: Global,
     word: &str,
@@ -98,7 +98,7 @@ fn plain_value(
     json!(in alloc; {"verdict": word, "policy": matched_value(matched), "name": name})
 }
 
-/// The object of a verdict, with this word and with the trials.
+// The object of a verdict, with this word and with the trials.
 fn explained_value(
     alloc: Global,
     word: &str,
@@ -114,7 +114,7 @@ fn explained_value(
     json!(in alloc; {"verdict": word, "policy": matched_value(matched), "name": name, "trials": trials})
 }
 
-/// The array of the trials' objects.
+// The array of the trials' objects.
 fn trials_value(alloc: Global, trials: &[OwnTrial]) -> Result<Value, AllocError>
     ensures { IfOk result (λ value. view value
         ≡ array (items_of (map trial_json (map reported_trial_view trials.now)))) }
@@ -126,7 +126,7 @@ fn trials_value(alloc: Global, trials: &[OwnTrial]) -> Result<Value, AllocError>
     Ok(Value::Array(values))
 }
 
-/// The object of a trial.
+// The object of a trial.
 fn trial_value(alloc: Global, trial: &OwnTrial) -> Result<Value, AllocError>
     ensures { IfOk result (λ value. view value ≡ trial_json (reported_trial_view trial.now)) }
 {
@@ -140,7 +140,7 @@ fn trial_value(alloc: Global, trial: &OwnTrial) -> Result<Value, AllocError>
     }
 }
 
-/// The object of a trial whose reason is this word.
+// The object of a trial whose reason is this word.
 fn reason_value(alloc: Global, trial: &OwnTrial, word: &str) -> Result<Value, AllocError>
     ensures { IfOk result (λ value. view value
         ≡ object (member (codes "causes") (causes_json (reported_trial_view trial.now).causes)
@@ -155,7 +155,7 @@ fn reason_value(alloc: Global, trial: &OwnTrial, word: &str) -> Result<Value, Al
     })
 }
 
-/// The array of the causes' texts.
+// The array of the causes' texts.
 fn causes_value(alloc: Global, causes: &[String]) -> Result<Value, AllocError>
     ensures { IfOk result (λ value. view value ≡ causes_json (map string_bytes causes.now)) }
 {
@@ -166,7 +166,7 @@ fn causes_value(alloc: Global, causes: &[String]) -> Result<Value, AllocError>
     Ok(Value::Array(values))
 }
 
-/// The object of a trial whose condition fails with this error.
+// The object of a trial whose condition fails with this error.
 fn fails_value(alloc: Global, trial: &OwnTrial, error: CelError) -> Result<Value, AllocError>
     ensures { IfOk result (λ value. view value
         ≡ reason_json (reported_trial_view trial.now) (ConditionFails error)) }
@@ -181,7 +181,7 @@ fn fails_value(alloc: Global, trial: &OwnTrial, error: CelError) -> Result<Value
     })
 }
 
-/// The object of a trial whose condition is true, after `steps` of at most `bound` steps.
+// The object of a trial whose condition is true, after `steps` of at most `bound` steps.
 fn true_value(alloc: Global, trial: &OwnTrial, steps: u64, bound: u64) -> Result<Value, AllocError>
     ensures { IfOk result (λ value. view value
         ≡ reason_json (reported_trial_view trial.now) (ConditionTrue steps bound)) }
@@ -197,7 +197,7 @@ fn true_value(alloc: Global, trial: &OwnTrial, steps: u64, bound: u64) -> Result
     })
 }
 
-/// A text, or `null`.
+// A text, or `null`.
 fn text_value(alloc: Global, name: &Option<String>) -> Result<Value, AllocError>
     ensures { IfOk result (λ value. view value ≡ text_json (option_map string_bytes name.now)) }
 {
@@ -207,7 +207,7 @@ fn text_value(alloc: Global, name: &Option<String>) -> Result<Value, AllocError>
     }
 }
 
-/// The number of the policy that matched, or `null`.
+// The number of the policy that matched, or `null`.
 fn matched_value(matched: Option<usize>) -> Value
     ensures { view result ≡ matched_json matched }
 {
@@ -217,7 +217,7 @@ fn matched_value(matched: Option<usize>) -> Value
     }
 }
 
-/// The object of a policy that is refused.
+// The object of a policy that is refused.
 fn refused_value(alloc: Global, refusal: Refusal, why: &Why) -> Result<Value, AllocError>
     ensures { IfOk result (λ value. view value ≡ refused_json (why_view why.now) refusal) }
 {
@@ -231,7 +231,7 @@ fn refused_value(alloc: Global, refusal: Refusal, why: &Why) -> Result<Value, Al
     })
 }
 
-/// The object of a head that has a fault.
+// The object of a head that has a fault.
 fn head_value(alloc: Global, fault: HeadFault, why: &Why) -> Result<Value, AllocError>
     ensures { IfOk result (λ value. view value ≡ head_json (why_view why.now) fault) }
 {

@@ -103,7 +103,7 @@ pub fn print_report<W: Write>(alloc: Global, report: Report, out: &mut W) -> io:
     }
 }
 
-/// Prints the report without its trials, or the line that memory ran out; returns the report that was printed.
+// Prints the report without its trials, or the line that memory ran out; returns the report that was printed.
 fn print_unexplained<W: Write>(alloc: Global, report: Report, out: &mut W) -> io::Result<Report>
     ensures same { IfOk result (IsPrintedFor report) }
     ensures text { IfOk result (λ printed. Appends (W.contents out.old) (W.contents out.new)
@@ -175,7 +175,7 @@ pub fn judge<R: Read + Drop>(
     }
 }
 
-/// Turns an out-of-memory error into an outcome; other errors stay errors.
+// Turns an out-of-memory error into an outcome; other errors stay errors.
 fn memory_as_finding(answer: io::Result<Finding>) -> io::Result<Finding>
     ensures kept { IfOk answer (λ finding. result ≡ Ok finding) }
     ensures memory { OnErr answer (IfOk result (λ finding. finding ≡ bare Outcome.Memory)) }
@@ -189,7 +189,7 @@ fn memory_as_finding(answer: io::Result<Finding>) -> io::Result<Finding>
     }
 }
 
-/// The finding for the head that the input begins with. Out of memory is an error here.
+// The finding for the head that the input begins with. Out of memory is an error here.
 fn head_finding<R: Read + Drop>(
     alloc: Global,
     admitted: &Admitted,
@@ -238,7 +238,7 @@ pub(crate) fn finding_of_ask(
     })
 }
 
-/// The name of the policy that matched, if the outcome has one.
+// The name of the policy that matched, if the outcome has one.
 fn name_of(
     alloc: Global,
     admitted: &Admitted,
@@ -253,7 +253,7 @@ fn name_of(
     }
 }
 
-/// The name of the policy of this number.
+// The name of the policy of this number.
 fn name_at(alloc: Global, admitted: &Admitted, number: usize) -> Result<Option<String>, AllocError>
     ensures { IfOk result (λ name. option_map string_bytes name
         ≡ slice_get (keys (filter_view admitted.now).policies) number) }
@@ -264,7 +264,7 @@ fn name_at(alloc: Global, admitted: &Admitted, number: usize) -> Result<Option<S
     }
 }
 
-/// The outcome of an ask, or of a head that is not whole.
+// The outcome of an ask, or of a head that is not whole.
 fn outcome_of_ask(admitted: &Admitted, found: &Option<HeadAsk>) -> Outcome
     requires { limits_view admitted.now ≡ largest }
     ensures { IsOutcomeOfAsk (filter_view admitted.now) found.now result }
@@ -276,7 +276,7 @@ fn outcome_of_ask(admitted: &Admitted, found: &Option<HeadAsk>) -> Outcome
     }
 }
 
-/// The outcome of a request. A filter without conditions never gives `Memory`.
+// The outcome of a request. A filter without conditions never gives `Memory`.
 fn decided(admitted: &Admitted, request: &Request) -> Outcome
     requires { limits_view admitted.now ≡ largest }
     ensures never { IsUnconditional (filter_view admitted.now) → result ≢ Outcome.Memory }
@@ -294,7 +294,7 @@ fn decided(admitted: &Admitted, request: &Request) -> Outcome
     }
 }
 
-/// Why a verdict is what it is, if that was asked for.
+// Why a verdict is what it is, if that was asked for.
 fn explanation_of_ask(
     alloc: Global,
     admitted: &Admitted,
@@ -316,8 +316,8 @@ fn explanation_of_ask(
     }
 }
 
-/// The explanation with the policies that are tried for the request. The filter is that of the policy file with these
-/// bytes.
+// The explanation with the policies that are tried for the request. The filter is that of the policy file with these
+// bytes.
 fn explained(alloc: Global, admitted: &Admitted, request: &Request, policy: &[u8]) -> Explanation
     requires { limits_view admitted.now ≡ largest }
     ensures found { IsExplanationOf (filter_view admitted.now) request.now result }

@@ -75,7 +75,7 @@ impl Notes {
         }
     }
 
-    /// Why a policy file is refused, and what it looks like.
+    // Why a policy file is refused, and what it looks like.
     fn cause_of_refusal(&self, alloc: Global, refusal: Refusal) -> Result<String, AllocError> {
         let meaning = self.part.meaning(refusal);
         match self.policy {
@@ -84,7 +84,7 @@ impl Notes {
         }
     }
 
-    /// The rule that a head breaks, and the part that exceeds its limit.
+    // The rule that a head breaks, and the part that exceeds its limit.
     fn cause_of_fault(&self, alloc: Global, fault: HeadFault) -> Result<String, AllocError> {
         let rule = rule_of(fault);
         match &self.head {
@@ -110,7 +110,7 @@ impl Notes {
     }
 }
 
-/// A copy of a text, if there is one and there is memory for it.
+// A copy of a text, if there is one and there is memory for it.
 fn copy_of(alloc: Global, text: &Option<String>) -> Option<String> {
     match text {
         Some(text) => String::from_str(alloc, text.as_str()).ok(),
@@ -118,7 +118,7 @@ fn copy_of(alloc: Global, text: &Option<String>) -> Option<String> {
     }
 }
 
-/// Whether this refusal may mean that the file's own fields are not those of a filter.
+// Whether this refusal may mean that the file's own fields are not those of a filter.
 fn is_of_fields(refusal: Refusal) -> bool {
     matches!(
         refusal,
@@ -167,10 +167,10 @@ impl fmt::Display for GuessedFormat {
     }
 }
 
-/// The beginning of the type URL of an Any.
+// The beginning of the type URL of an Any.
 const TYPE_START: &[u8] = b"type.googleapis.com/";
 
-/// The field number of `rules` in a filter message.
+// The field number of `rules` in a filter message.
 const RULES: u32 = 1;
 
 /// What the bytes look like, if they are plainly no filter message. Call it only if the file's own fields may be wrong.
@@ -193,17 +193,17 @@ pub(crate) fn likeness_of(bytes: &[u8]) -> Option<GuessedFormat> {
     }
 }
 
-/// Whether the bytes begin like an Any, with a type URL. A filter's rules never do, since their field 1 is a number.
+// Whether the bytes begin like an Any, with a type URL. A filter's rules never do, since their field 1 is a number.
 fn begins_as_any(bytes: &[u8]) -> bool {
     bytes.first() == Some(&0x0a) && bytes.get(2..).unwrap_or(&[]).starts_with(TYPE_START)
 }
 
-/// What the fields of a file include, up to its end or to bytes that are no field.
+// What the fields of a file include, up to its end or to bytes that are no field.
 #[derive(Clone, Copy)]
 struct FirstFields {
-    /// Whether one field has the number and the wire type of a filter's rules.
+    // Whether one field has the number and the wire type of a filter's rules.
     has_rules: bool,
-    /// Whether one field begins like an Any.
+    // Whether one field begins like an Any.
     has_any: bool,
 }
 
@@ -225,12 +225,12 @@ fn first_fields(bytes: &[u8]) -> FirstFields {
     found
 }
 
-/// Whether the byte may be part of a text.
+// Whether the byte may be part of a text.
 fn is_printed(byte: u8) -> bool {
     byte >= 0x80 || byte.is_ascii_graphic() || byte.is_ascii_whitespace()
 }
 
-/// What the text looks like.
+// What the text looks like.
 fn likeness_of_text(text: &[u8]) -> GuessedFormat {
     if matches!(text.trim_ascii_start().first(), Some(b'{' | b'[')) {
         return GuessedFormat::Json;

@@ -75,7 +75,7 @@ impl Report {
         }
     }
 
-    /// The line with the report's JSON object.
+    // The line with the report's JSON object.
     fn json_line(&self, alloc: Global) -> Result<String, AllocError>
         requires { self.now.json ≡ true }
         ensures { IfOk result (λ line. string_bytes line ≡ printed_of self.now) }
@@ -93,7 +93,7 @@ impl Report {
     }
 }
 
-/// The outcome's line, followed by those of the trials, if there are any to show.
+// The outcome's line, followed by those of the trials, if there are any to show.
 fn lines(alloc: Global, outcome: Outcome, explanation: &Explanation) -> Result<String, AllocError>
     ensures { IfOk result (λ text.
         string_bytes text ≡ with_trials (line_of outcome) (reported_trials explanation.now)) }

@@ -46,7 +46,7 @@ impl<'a> Model for Causes<'a> {
     ghost view = { λ c. causes_in c.leaves.now c.found.items };
 }
 
-/// Where causes are searched, for which request, and how many are found at most.
+// Where causes are searched, for which request, and how many are found at most.
 #[derive(Drop)]
 struct Search<'a> {
     alloc: Global,
@@ -77,8 +77,8 @@ pub fn rule_causes<'a>(
     Ok(Causes { leaves, found })
 }
 
-/// Appends the causes of a node's rule, which is at the end of the path; `inside` has the nodes of the rules in
-/// it.
+// Appends the causes of a node's rule, which is at the end of the path; `inside` has the nodes of the rules in
+// it.
 #[cycle(causes)]
 fn node_causes(
     search: &Search<'_>,
@@ -99,7 +99,7 @@ fn node_causes(
     }
 }
 
-/// The same for a rule that joins others.
+// The same for a rule that joins others.
 #[cycle(causes)]
 fn joined_causes(
     search: &Search<'_>,
@@ -120,7 +120,7 @@ fn joined_causes(
     }
 }
 
-/// Appends the causes of a rule that negates the first rule of the nodes.
+// Appends the causes of a rule that negates the first rule of the nodes.
 #[cycle(causes)]
 fn negated_causes(
     search: &Search<'_>,
@@ -141,7 +141,7 @@ fn negated_causes(
     node_causes(search, found, &deeper, node, inside)
 }
 
-/// Appends the causes of an `And` or an `Or` of the rules of the nodes.
+// Appends the causes of an `And` or an `Or` of the rules of the nodes.
 #[cycle(causes)]
 fn many_causes(
     search: &Search<'_>,
@@ -161,7 +161,7 @@ fn many_causes(
     all_causes(search, found, path, joint, nodes)
 }
 
-/// Appends the causes of the first rule of the nodes that decides alone.
+// Appends the causes of the first rule of the nodes that decides alone.
 #[cycle(causes)]
 fn first_causes(
     search: &Search<'_>,
@@ -192,7 +192,7 @@ fn first_causes(
     Ok(())
 }
 
-/// Appends the causes of all rules of the nodes.
+// Appends the causes of all rules of the nodes.
 #[cycle(causes)]
 fn all_causes(
     search: &Search<'_>,
@@ -218,7 +218,7 @@ fn all_causes(
     Ok(())
 }
 
-/// Whether some rule of the nodes decides an `And` or an `Or` of them alone.
+// Whether some rule of the nodes decides an `And` or an `Or` of them alone.
 fn is_decided(search: &Search<'_>, joint: Joint, nodes: &[Node]) -> bool
     ensures { result ≡ is_decided search.now.request.now joint
         (formulas_in search.now.leaves.now nodes.now) }
@@ -229,7 +229,7 @@ fn is_decided(search: &Search<'_>, joint: Joint, nodes: &[Node]) -> bool
     }
 }
 
-/// Whether a joined rule of this value decides alone.
+// Whether a joined rule of this value decides alone.
 fn decides(joint: Joint, value: bool) -> bool
     ensures { result ≡ decides joint value }
 {
@@ -239,7 +239,7 @@ fn decides(joint: Joint, value: bool) -> bool
     }
 }
 
-/// The path with one step more.
+// The path with one step more.
 fn path_with(
     alloc: Global,
     path: &[Step],
@@ -255,7 +255,7 @@ fn path_with(
     Ok(steps)
 }
 
-/// Appends the leaf at the end of the path, whose test is at this place, unless the limit is reached.
+// Appends the leaf at the end of the path, whose test is at this place, unless the limit is reached.
 fn add(
     search: &Search<'_>,
     found: &mut Vec<Cause>,

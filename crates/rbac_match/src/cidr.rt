@@ -47,7 +47,7 @@ pub(crate) const ADDRESS_PREFIX: u32 = 1;
 
 pub(crate) const PREFIX_LEN: u32 = 2;
 
-/// The field of a UInt32Value's value.
+// The field of a UInt32Value's value.
 const VALUE: u32 = 1;
 
 static CIDR_RANGE: [Key; 2] = keys![Len ADDRESS_PREFIX, Len PREFIX_LEN];
@@ -68,7 +68,7 @@ pub(crate) fn read_cidr(alloc: Global, parts: &[&[u8]]) -> Result<Cidr, Fault>
     at_field(range_of(address, prefix_len), PREFIX_LEN)
 }
 
-/// The address in the fields of a range.
+// The address in the fields of a range.
 fn address_prefix(fields: &[Field<'_>]) -> Result<Ip, Refusal>
     ensures found { let text = bytes_at cidr_field.address_prefix (map field_view fields.now) in
         IfOk result (λ ip. IsUtf8 text × IsIpText text ip) }
@@ -79,7 +79,7 @@ fn address_prefix(fields: &[Field<'_>]) -> Result<Ip, Refusal>
     parse_ip(text).ok_or(Refusal::OutOfRange)
 }
 
-/// Reads a `google.protobuf.UInt32Value`, a message that holds one uint32, from its parts.
+// Reads a `google.protobuf.UInt32Value`, a message that holds one uint32, from its parts.
 fn read_uint32(alloc: Global, parts: &[&[u8]]) -> Result<u32, Fault>
     ensures found { IfOk result (λ n. IsUint32 (parts_view parts.now) n) }
     ensures fault { IfErr result (FaultOr (MessageFault uint32_keys (parts_view parts.now))) }
@@ -88,8 +88,8 @@ fn read_uint32(alloc: Global, parts: &[&[u8]]) -> Result<u32, Fault>
     Ok(uint32_at(&fields, VALUE))
 }
 
-/// The range of the addresses that begin with the first `prefix_len` bits of `address`, unless it has fewer
-/// bits.
+// The range of the addresses that begin with the first `prefix_len` bits of `address`, unless it has fewer
+// bits.
 fn range_of(address: Ip, prefix_len: u32) -> Result<Cidr, Refusal>
     ensures found { IfOk result (λ range. (range.address ≡ address)
         × (range.prefix_len ≡ prefix_len) × (prefix_len ≤ width_of address)) }

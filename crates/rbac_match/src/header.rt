@@ -123,7 +123,7 @@ pub(crate) fn read_header_matcher<'a>(
     })
 }
 
-/// The name as the message has it; it is not empty.
+// The name as the message has it; it is not empty.
 fn header_name<'a>(fields: &[Field<'a>]) -> Result<&'a str, Refusal>
     ensures found { let bytes = bytes_at header_field.name (map field_view fields.now) in
         IfOk result (λ name. (name.now ≡ bytes) × IsUtf8 bytes × (bytes ≢ [])) }
@@ -137,7 +137,7 @@ fn header_name<'a>(fields: &[Field<'a>]) -> Result<&'a str, Refusal>
     text_of(bytes)
 }
 
-/// What the last member requires; without a member, the header must be present.
+// What the last member requires; without a member, the header must be present.
 fn read_specifier<'a>(alloc: Global, fields: &[Field<'a>]) -> Result<Specifier<'a>, Fault>
     ensures found { IfOk result (λ s. SaysSpecifier (map field_view fields.now) s) }
     ensures fault { IfErr result (FaultOr
@@ -151,7 +151,7 @@ fn read_specifier<'a>(alloc: Global, fields: &[Field<'a>]) -> Result<Specifier<'
     inside_field(read_header_member(alloc, member, number, &run), number, 0)
 }
 
-/// The member of this number; a regular expression is not supported.
+// The member of this number; a regular expression is not supported.
 fn header_member(number: u32) -> Result<HeaderMember, Refusal>
     ensures found { IfOk result (λ member. member_in specifiers number ≡ Some member) }
     ensures fault { IfErr result (λ e. (member_in specifiers number ≡ None) × (e ≡ Unsupported)) }
@@ -168,7 +168,7 @@ fn header_member(number: u32) -> Result<HeaderMember, Refusal>
     }
 }
 
-/// Reads from its run what this member requires. If the member is itself a text, the case of letters counts.
+// Reads from its run what this member requires. If the member is itself a text, the case of letters counts.
 fn read_header_member<'a>(
     alloc: Global,
     member: HeaderMember,

@@ -19,7 +19,7 @@ pub struct Int64Range {
 }
 
 impl Int64Range {
-    /// Whether the number is in the range.
+    // Whether the number is in the range.
     fn contains(&self, number: i64) -> bool
         ensures { result ≡ is_within self.now number }
     {
@@ -37,8 +37,8 @@ impl Int64Range {
     }
 }
 
-/// The number that the whole text spells: an optional `+` or `-`, then at least one decimal digit. `None` for
-/// any other text, and for a number that does not fit in 64 bits.
+// The number that the whole text spells: an optional `+` or `-`, then at least one decimal digit. `None` for
+// any other text, and for a number that does not fit in 64 bits.
 fn parse_int64(text: &str) -> Option<i64>
     ensures { result ≡ int64_in text.now }
 {

@@ -34,7 +34,7 @@ pub(crate) fn read_leaf<'a>(
     leaf
 }
 
-/// The same from the payloads of the run as well.
+// The same from the payloads of the run as well.
 fn leaf_in<'a>(
     alloc: Global,
     kind: LeafKind,

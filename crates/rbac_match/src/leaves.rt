@@ -152,7 +152,7 @@ impl Leaves {
     }
 }
 
-/// A start of the path of every request that passes the leaf's test.
+// A start of the path of every request that passes the leaf's test.
 fn leaf_start<'a>(pool: &'a Pool, leaf: &Leaf) -> &'a [u8]
     requires { GoodLeaf pool.now leaf.now }
     ensures { (r : RequestValue) → matcher_holds (leaf_in pool.now leaf.now) r ≡ true
@@ -164,8 +164,8 @@ fn leaf_start<'a>(pool: &'a Pool, leaf: &Leaf) -> &'a [u8]
     }
 }
 
-/// The name of the header that the leaf's test reads, and its value in each request that passes, if only one
-/// passes.
+// The name of the header that the leaf's test reads, and its value in each request that passes, if only one
+// passes.
 fn leaf_value<'a>(pool: &'a Pool, leaf: &Leaf) -> Option<(&'a str, &'a [u8])>
     requires { GoodLeaf pool.now leaf.now }
     ensures { IfSome result (λ need. (r : RequestValue)
@@ -178,7 +178,7 @@ fn leaf_value<'a>(pool: &'a Pool, leaf: &Leaf) -> Option<(&'a str, &'a [u8])>
     }
 }
 
-/// The same for a test of the header's text.
+// The same for a test of the header's text.
 fn text_value<'a>(pool: &'a Pool, name: &NameLeaf, test: &TextLeaf) -> Option<(&'a str, &'a [u8])>
     requires name { GoodName pool.now name.now }
     requires text { GoodText pool.now test.now }
@@ -198,7 +198,7 @@ fn text_value<'a>(pool: &'a Pool, name: &NameLeaf, test: &TextLeaf) -> Option<(&
     }
 }
 
-/// Makes the leaf of a test, and adds its texts or its range of addresses to the pool.
+// Makes the leaf of a test, and adds its texts or its range of addresses to the pool.
 fn leaf_of(pool: &mut Pool, alloc: Global, test: &Matcher<'_>) -> Result<Leaf, AllocError>
     ensures grows { Grows pool.old pool.new }
     ensures found { IfOk result (λ leaf. GoodLeaf pool.new leaf × (leaf_in pool.new leaf ≡ test.now)) }
@@ -219,7 +219,7 @@ fn leaf_of(pool: &mut Pool, alloc: Global, test: &Matcher<'_>) -> Result<Leaf, A
     }
 }
 
-/// Makes the leaf of a test of a header, and adds its texts to the pool.
+// Makes the leaf of a test of a header, and adds its texts to the pool.
 fn header_leaf(pool: &mut Pool, alloc: Global, test: &HeaderMatcher<'_>) -> Result<Leaf, AllocError>
     ensures grows { Grows pool.old pool.new }
     ensures found { IfOk result (λ leaf. GoodLeaf pool.new leaf
@@ -237,7 +237,7 @@ fn header_leaf(pool: &mut Pool, alloc: Global, test: &HeaderMatcher<'_>) -> Resu
     }
 }
 
-/// Whether the request passes the leaf's test. It takes no memory.
+// Whether the request passes the leaf's test. It takes no memory.
 #[inline(always)]
 fn leaf_passes(pool: &Pool, leaf: &Leaf, request: &Request) -> bool
     requires { GoodLeaf pool.now leaf.now }
@@ -250,7 +250,7 @@ fn leaf_passes(pool: &Pool, leaf: &Leaf, request: &Request) -> bool
     }
 }
 
-/// The same, in a function that is not inlined.
+// The same, in a function that is not inlined.
 #[inline(never)]
 fn other_leaf_passes(pool: &Pool, leaf: &Leaf, request: &Request) -> bool
     requires { GoodLeaf pool.now leaf.now }
@@ -278,7 +278,7 @@ fn other_leaf_passes(pool: &Pool, leaf: &Leaf, request: &Request) -> bool
     }
 }
 
-/// Whether the target up to its first `?` or `#` passes the test.
+// Whether the target up to its first `?` or `#` passes the test.
 #[inline(always)]
 fn path_passes(pool: &Pool, test: &TextLeaf, request: &Request) -> bool
     requires { GoodText pool.now test.now }
@@ -287,7 +287,7 @@ fn path_passes(pool: &Pool, test: &TextLeaf, request: &Request) -> bool
     pool.text_passes(test, request.url_path())
 }
 
-/// Whether the server name that the client requested passes the test; an absent one is the empty text.
+// Whether the server name that the client requested passes the test; an absent one is the empty text.
 fn server_name_passes(pool: &Pool, test: &TextLeaf, request: &Request) -> bool
     requires { GoodText pool.now test.now }
     ensures { result ≡ matcher_holds (leaf_in pool.now (ServerName test.now)) request.now }
@@ -298,7 +298,7 @@ fn server_name_passes(pool: &Pool, test: &TextLeaf, request: &Request) -> bool
     }
 }
 
-/// The value of the header in the request, if it is present.
+// The value of the header in the request, if it is present.
 #[inline(always)]
 fn header_at<'a>(pool: &Pool, name: &NameLeaf, request: &'a Request) -> Option<&'a str>
     requires { GoodName pool.now name.now }
@@ -308,7 +308,7 @@ fn header_at<'a>(pool: &Pool, name: &NameLeaf, request: &'a Request) -> Option<&
     request.header(unsafe { str::from_utf8_unchecked(name) })
 }
 
-/// The same; a missing header that counts as empty has the empty text.
+// The same; a missing header that counts as empty has the empty text.
 #[inline(always)]
 fn value_at<'a>(pool: &Pool, name: &NameLeaf, request: &'a Request) -> Option<&'a str>
     requires { GoodName pool.now name.now }
@@ -322,7 +322,7 @@ fn value_at<'a>(pool: &Pool, name: &NameLeaf, request: &'a Request) -> Option<&'
     }
 }
 
-/// Whether the header's value passes the test of texts, or fails it if the test is inverted.
+// Whether the header's value passes the test of texts, or fails it if the test is inverted.
 #[inline(never)]
 fn header_text_passes(pool: &Pool, name: &NameLeaf, test: &TextLeaf, request: &Request) -> bool
     requires name { GoodName pool.now name.now }
@@ -335,7 +335,7 @@ fn header_text_passes(pool: &Pool, name: &NameLeaf, test: &TextLeaf, request: &R
     }
 }
 
-/// Whether the connection is known to use mutual TLS, and its peer's name passes the test.
+// Whether the connection is known to use mutual TLS, and its peer's name passes the test.
 fn named_passes(pool: &Pool, test: &TextLeaf, request: &Request) -> bool
     requires { GoodText pool.now test.now }
     ensures { result ≡ matcher_holds (leaf_in pool.now (Named test.now)) request.now }

@@ -34,7 +34,7 @@ pub(crate) fn node_matches(leaves: &Leaves, node: &Node, inside: &[Node], reques
     }
 }
 
-/// The same for a rule that joins others.
+// The same for a rule that joins others.
 #[cycle(matching)]
 #[inline(never)]
 fn joined_match(leaves: &Leaves, joint: Joint, inside: &[Node], request: &Request) -> bool
@@ -47,7 +47,7 @@ fn joined_match(leaves: &Leaves, joint: Joint, inside: &[Node], request: &Reques
     }
 }
 
-/// Whether the first rule of the nodes matches the request; true without nodes.
+// Whether the first rule of the nodes matches the request; true without nodes.
 #[cycle(matching)]
 fn first_matches(leaves: &Leaves, nodes: &[Node], request: &Request) -> bool
     ensures { result ≡ holds request.now (first_of (formulas_in leaves.now nodes.now)) }

@@ -54,7 +54,7 @@ pub(crate) struct LastMember {
     pub number: u32,
 }
 
-/// The member of this number; `None` if it is not supported.
+// The member of this number; `None` if it is not supported.
 fn member_at(side: Side, number: u32) -> Option<Member>
     ensures { result ≡ member_in (members side) number }
 {

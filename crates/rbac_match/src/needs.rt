@@ -63,8 +63,8 @@ pub fn header_name(list: &RuleList, rules: Rules) -> Option<&str> {
     }
 }
 
-/// A start of the path of every request that the rule of a node matches; `inside` has the nodes of the rules
-/// in it.
+// A start of the path of every request that the rule of a node matches; `inside` has the nodes of the rules
+// in it.
 fn rule_start<'a>(leaves: &'a Leaves, node: &Node, inside: &[Node]) -> &'a [u8]
     ensures { (r : RequestValue) → holds r (formula_in leaves.now node.now inside.now) ≡ true
         → Begins result.now (url_path_of r.target) }
@@ -75,7 +75,7 @@ fn rule_start<'a>(leaves: &'a Leaves, node: &Node, inside: &[Node]) -> &'a [u8]
     }
 }
 
-/// The same for a rule that is a test.
+// The same for a rule that is a test.
 fn test_start<'a>(leaves: &'a Leaves, node: &Node) -> &'a [u8]
     ensures { (inside : List Node) (r : RequestValue)
         → holds r (formula_in leaves.now node.now inside) ≡ true
@@ -87,8 +87,8 @@ fn test_start<'a>(leaves: &'a Leaves, node: &Node) -> &'a [u8]
     }
 }
 
-/// A start of the path of every request that all rules of the nodes match: that of the first test of the path
-/// among them.
+// A start of the path of every request that all rules of the nodes match: that of the first test of the path
+// among them.
 fn joined_start<'a>(leaves: &'a Leaves, nodes: &[Node]) -> &'a [u8]
     ensures { (r : RequestValue) → all_hold r (formulas_in leaves.now nodes.now) ≡ true
         → Begins result.now (url_path_of r.target) }
@@ -105,8 +105,8 @@ fn joined_start<'a>(leaves: &'a Leaves, nodes: &[Node]) -> &'a [u8]
     &[]
 }
 
-/// A start that `start` has in common with the path of every request that at least one rule of the nodes
-/// matches.
+// A start that `start` has in common with the path of every request that at least one rule of the nodes
+// matches.
 fn common_start<'a>(leaves: &'a Leaves, start: &'a [u8], nodes: &[Node]) -> &'a [u8]
     ensures start { Begins result.now start.now }
     ensures rules { (r : RequestValue) → some_hold r (formulas_in leaves.now nodes.now) ≡ true
@@ -122,7 +122,7 @@ fn common_start<'a>(leaves: &'a Leaves, start: &'a [u8], nodes: &[Node]) -> &'a 
     common
 }
 
-/// The longest start that two texts have in common.
+// The longest start that two texts have in common.
 fn shared<'a>(one: &'a [u8], other: &[u8]) -> &'a [u8]
     ensures one { Begins result.now one.now }
     ensures other { Begins result.now other.now }
@@ -131,7 +131,7 @@ fn shared<'a>(one: &'a [u8], other: &[u8]) -> &'a [u8]
     &one[..count]
 }
 
-/// The number of bytes of that start.
+// The number of bytes of that start.
 fn same_count(one: &[u8], other: &[u8]) -> usize
     ensures { (result ≤ length one.now) × (take result one.now ≡ take result other.now) }
 {
@@ -148,8 +148,8 @@ fn same_count(one: &[u8], other: &[u8]) -> usize
     one.len()
 }
 
-/// The value of the header of this name in every request that the rule of a node matches. `inside` has the
-/// nodes of the rules in it.
+// The value of the header of this name in every request that the rule of a node matches. `inside` has the
+// nodes of the rules in it.
 fn rule_value<'a>(leaves: &'a Leaves, node: &Node, inside: &[Node], name: &str) -> Option<&'a [u8]>
     ensures { IfSome result (λ value. (r : RequestValue)
         → holds r (formula_in leaves.now node.now inside.now) ≡ true
@@ -161,7 +161,7 @@ fn rule_value<'a>(leaves: &'a Leaves, node: &Node, inside: &[Node], name: &str) 
     }
 }
 
-/// The same for a rule that is a test.
+// The same for a rule that is a test.
 fn test_value<'a>(leaves: &'a Leaves, node: &Node, name: &str) -> Option<&'a [u8]>
     ensures { IfSome result (λ value. (inside : List Node) (r : RequestValue)
         → holds r (formula_in leaves.now node.now inside) ≡ true
@@ -173,7 +173,7 @@ fn test_value<'a>(leaves: &'a Leaves, node: &Node, name: &str) -> Option<&'a [u8
     }
 }
 
-/// The same for the test at this place.
+// The same for the test at this place.
 fn needed_value<'a>(leaves: &'a Leaves, place: u32, name: &str) -> Option<&'a [u8]>
     ensures { IfSome result (λ value. (r : RequestValue)
         → passes_at (slice_get leaves.now place) r ≡ true
@@ -190,8 +190,8 @@ fn needed_value<'a>(leaves: &'a Leaves, place: u32, name: &str) -> Option<&'a [u
     }
 }
 
-/// The value of the header of this name in every request that all rules of the nodes match. It is that of the
-/// first test that needs one.
+// The value of the header of this name in every request that all rules of the nodes match. It is that of the
+// first test that needs one.
 fn joined_value<'a>(leaves: &'a Leaves, nodes: &[Node], name: &str) -> Option<&'a [u8]>
     ensures { IfSome result (λ value. (r : RequestValue)
         → all_hold r (formulas_in leaves.now nodes.now) ≡ true
@@ -209,7 +209,7 @@ fn joined_value<'a>(leaves: &'a Leaves, nodes: &[Node], name: &str) -> Option<&'
     None
 }
 
-/// Whether each rule of the nodes needs this value of the header of this name.
+// Whether each rule of the nodes needs this value of the header of this name.
 fn all_need(leaves: &Leaves, nodes: &[Node], name: &str, value: &[u8]) -> bool
     ensures { result ≡ true → (r : RequestValue)
         → some_hold r (formulas_in leaves.now nodes.now) ≡ true
@@ -226,7 +226,7 @@ fn all_need(leaves: &Leaves, nodes: &[Node], name: &str, value: &[u8]) -> bool
     true
 }
 
-/// The same for the rule of a node; `inside` has the nodes of the rules in it.
+// The same for the rule of a node; `inside` has the nodes of the rules in it.
 fn needs_value(leaves: &Leaves, node: &Node, inside: &[Node], name: &str, value: &[u8]) -> bool
     ensures { result ≡ true → (r : RequestValue)
         → holds r (formula_in leaves.now node.now inside.now) ≡ true
@@ -238,7 +238,7 @@ fn needs_value(leaves: &Leaves, node: &Node, inside: &[Node], name: &str, value:
     }
 }
 
-/// The name of the header in the first test, among the rules of the nodes, that requires a value.
+// The name of the header in the first test, among the rules of the nodes, that requires a value.
 fn joined_name<'a>(leaves: &'a Leaves, nodes: &[Node]) -> Option<&'a str> {
     let mut rest = nodes;
     while let Some((node, behind)) = rest.split_first() {
@@ -252,7 +252,7 @@ fn joined_name<'a>(leaves: &'a Leaves, nodes: &[Node]) -> Option<&'a str> {
     None
 }
 
-/// The name of the header whose value the node's test needs.
+// The name of the header whose value the node's test needs.
 fn test_name<'a>(leaves: &'a Leaves, node: &Node) -> Option<&'a str> {
     match node {
         Node::Leaf(place) => match leaves.header_value(*place) {

@@ -15,7 +15,7 @@ use proto_wire::{
 };
 use std::alloc::Global;
 
-/// What a field holds: a message in a rule, the rule itself, or no message.
+// What a field holds: a message in a rule, the rule itself, or no message.
 #[derive(Clone, Copy)]
 enum Message {
     Rule(Side),
@@ -30,7 +30,7 @@ enum Message {
     Scalar,
 }
 
-/// A field: its name in Envoy's messages, as a step of a path, and what it holds.
+// A field: its name in Envoy's messages, as a step of a path, and what it holds.
 #[derive(Clone, Copy)]
 struct Named {
     step: &'static str,
@@ -69,7 +69,7 @@ pub fn place_in_rule(alloc: Global, side: Side, fault: &Fault, before: usize) ->
     Some(path)
 }
 
-/// The payloads of a rule inside another one, and how many levels it may have.
+// The payloads of a rule inside another one, and how many levels it may have.
 #[derive(Drop)]
 struct Inner<'a> {
     parts: Payloads<'a>,
@@ -82,8 +82,8 @@ fn one_payload<'a>(alloc: Global, payload: &'a [u8]) -> Option<Payloads<'a>> {
     Some(parts)
 }
 
-/// The rule to which `not` alone leads from this one; adds these steps to the path. Such rules need no second reading:
-/// what is wrong is inside them.
+// The rule to which `not` alone leads from this one; adds these steps to the path. Such rules need no second reading:
+// what is wrong is inside them.
 fn past_nots<'a>(
     alloc: Global,
     side: Side,
@@ -105,7 +105,7 @@ fn past_nots<'a>(
     Some(inner)
 }
 
-/// The payloads of the rule that a rule negates, if its own message has no fault.
+// The payloads of the rule that a rule negates, if its own message has no fault.
 fn negated<'a>(alloc: Global, side: Side, parts: &[&'a [u8]]) -> Option<Payloads<'a>> {
     let fields = read_message(alloc, parts, rule_keys(side)).ok()?;
     let run = trailing_run(&fields);
@@ -120,8 +120,8 @@ fn fault_of_rule(alloc: Global, side: Side, rule: &Inner<'_>) -> Option<Fault> {
     read_rule_at(&mut list, side, &rule.parts, rule.depth).err()
 }
 
-/// The last rule to which the steps of a place lead from this rule; adds these steps to the path. `None` if they
-/// lead to no rule.
+// The last rule to which the steps of a place lead from this rule; adds these steps to the path. `None` if they
+// lead to no rule.
 fn last_rule<'a>(
     alloc: Global,
     side: Side,
@@ -146,7 +146,7 @@ fn last_rule<'a>(
     Some(inner)
 }
 
-/// How many steps of the place lead from a rule to the last rule on its path.
+// How many steps of the place lead from a rule to the last rule on its path.
 fn steps_to_a_rule(side: Side, place: &Place) -> usize {
     let mut part = Message::Rule(side);
     let mut count = 0;
@@ -165,7 +165,7 @@ fn steps_to_a_rule(side: Side, place: &Place) -> usize {
     count
 }
 
-/// The payloads of the part to which a step leads: a set's rule, or the member of a rule that counts.
+// The payloads of the part to which a step leads: a set's rule, or the member of a rule that counts.
 fn payloads_in<'a>(
     alloc: Global,
     part: Message,
@@ -180,7 +180,7 @@ fn payloads_in<'a>(
     payloads_of(alloc, trailing_run(&fields), step.number).ok()
 }
 
-/// Adds the path from a rule to the place, of which the first `before` steps lead to the rule.
+// Adds the path from a rule to the place, of which the first `before` steps lead to the rule.
 fn add_place(
     alloc: Global,
     side: Side,
@@ -207,7 +207,7 @@ fn add_step(alloc: Global, part: Message, step: Step, path: &mut String) -> Opti
     Some(inner)
 }
 
-/// Adds the field that the place names, if it names one.
+// Adds the field that the place names, if it names one.
 fn add_end(alloc: Global, part: Message, fault: &Fault, path: &mut String) -> Option<()> {
     if fault.place.is_cut_short() {
         return path.push_str("..").ok();
@@ -222,7 +222,7 @@ fn add_end(alloc: Global, part: Message, fault: &Fault, path: &mut String) -> Op
     Some(())
 }
 
-/// Adds the name of the field, or its number if it has none, and gives what it holds.
+// Adds the name of the field, or its number if it has none, and gives what it holds.
 fn add_field(alloc: Global, part: Message, number: u32, path: &mut String) -> Option<Message> {
     let Some(field) = field_of(part, number) else {
         add_number(alloc, number, path)?;
@@ -237,7 +237,7 @@ fn add_number(alloc: Global, number: u32, path: &mut String) -> Option<()> {
     path.push_str(text.as_str()).ok()
 }
 
-/// The field of this number.
+// The field of this number.
 fn field_of(message: Message, number: u32) -> Option<Named> {
     match message {
         Message::Rule(Side::Permission) => permission_field(number),
@@ -258,7 +258,7 @@ fn field_of(message: Message, number: u32) -> Option<Named> {
     }
 }
 
-/// A field without a message.
+// A field without a message.
 fn scalar(step: &'static str) -> Option<Named> {
     of_message(step, Message::Scalar)
 }

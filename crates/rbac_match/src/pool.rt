@@ -17,7 +17,7 @@ use std::alloc::{AllocError, Global};
 #[derive(Debug, Drop)]
 pub(crate) struct Pool {
     pub(crate) text: Vec<u8>,
-    // the borders of the texts that are searched for in any case
+    /// The borders of the texts that are searched for in any case.
     pub(crate) borders: Vec<u32>,
     pub(crate) ranges: Vec<Cidr>,
 }
@@ -106,7 +106,7 @@ impl Pool {
         }
     }
 
-    /// Appends the borders of a text that is searched for in any case.
+    // Appends the borders of a text that is searched for in any case.
     fn keep_borders(&mut self, alloc: Global, part: &[u8]) -> Result<u32, AllocError>
         ensures grows { Grows self.old self.new }
         ensures kept { IfOk result (λ at. (at + length part.now ≤ length self.new.borders.items)
@@ -141,7 +141,7 @@ impl Pool {
         }
     }
 
-    /// The same for a test by this pattern, in which the case of letters counts.
+    // The same for a test by this pattern, in which the case of letters counts.
     fn plain_start(&self, pattern: Pattern, span: Span) -> &[u8]
         requires { IsWithin span self.now }
         ensures { (bytes : List ℕ) → pattern_holds pattern (part_of span self.now) bytes ≡ true
@@ -181,7 +181,7 @@ impl Pool {
         }
     }
 
-    /// Whether the text contains that of the span, in any case of letters.
+    // Whether the text contains that of the span, in any case of letters.
     #[inline(never)]
     fn has_inside(&self, span: Span, at: u32, text: &[u8]) -> bool
         requires within { IsWithin span self.now }

@@ -16,7 +16,7 @@ use proto_wire::{Fault, Field, Refusal, int32_at, read_message_at, uint32_at};
 use std::alloc::Global;
 use std::marker::Model;
 
-/// One more than the greatest port.
+// One more than the greatest port.
 const PORTS: i32 = 65_536;
 
 /// Consecutive ports: `start` is the first, and `end` is the one after the last.
@@ -62,7 +62,7 @@ pub(crate) fn read_port_range(alloc: Global, parts: &[&[u8]]) -> Result<PortRang
     Ok(port_range(&fields)?)
 }
 
-/// The ports between the bounds in the fields.
+// The ports between the bounds in the fields.
 fn port_range(fields: &[Field<'_>]) -> Result<PortRange, Refusal>
     ensures found { IfOk result (λ range. AreBounds (map field_view fields.now) range) }
     ensures fault { IfErr result (λ e. AreNoBounds (map field_view fields.now) × (e ≡ OutOfRange)) }

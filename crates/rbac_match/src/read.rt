@@ -63,7 +63,7 @@ pub fn read_rule_at(
     )
 }
 
-/// Reads a rule from the run of its last member, and appends it; the rules in it may have `depth` levels.
+// Reads a rule from the run of its last member, and appends it; the rules in it may have `depth` levels.
 #[cycle(rule)]
 fn read_member(
     list: &mut RuleList,
@@ -109,7 +109,7 @@ fn read_member(
     }
 }
 
-/// Reads the rules of a set from the set's parts, and appends them.
+// Reads the rules of a set from the set's parts, and appends them.
 #[cycle(rule)]
 fn read_set(list: &mut RuleList, side: Side, parts: &[&[u8]], depth: u32) -> Result<(), Fault>
     ensures found { OnOk result (AddsRules (IsSet (IsRule side depth) (parts_view parts.now))
@@ -121,7 +121,7 @@ fn read_set(list: &mut RuleList, side: Side, parts: &[&[u8]], depth: u32) -> Res
     read_each(list, side, &fields, RULES, depth)
 }
 
-/// Reads the rules in the fields of this number, in order, and appends them.
+// Reads the rules in the fields of this number, in order, and appends them.
 #[cycle(rule)]
 fn read_each(
     list: &mut RuleList,

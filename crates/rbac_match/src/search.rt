@@ -57,8 +57,8 @@ pub(crate) fn contains_ignore_case(text: &[u8], part: &[u8], borders: &[u32]) ->
     false
 }
 
-/// The length of the longest beginning of the part that some bytes and then `byte` end with. Without `byte`,
-/// it is `matched`.
+// The length of the longest beginning of the part that some bytes and then `byte` end with. Without `byte`,
+// it is `matched`.
 fn advance(part: &[u8], borders: &[u32], matched: usize, byte: u8) -> usize
     requires below { matched < length part.now }
     requires known { matched ≤ length borders.now }

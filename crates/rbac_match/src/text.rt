@@ -119,7 +119,7 @@ pub(crate) fn read_text_matcher<'a>(
     Ok(TextMatcher::new(pattern, sought, ignore_case))
 }
 
-/// The pattern and the text of the last member.
+// The pattern and the text of the last member.
 fn last_pattern<'a>(fields: &[Field<'a>]) -> Result<(Pattern, &'a str), Fault>
     ensures found { let fs = map field_view fields.now in IfOk result (λ p.
         MatchOption (last_number (keys_of string_members) fs) ⊥ (λ n.
@@ -139,7 +139,7 @@ fn last_pattern<'a>(fields: &[Field<'a>]) -> Result<(Pattern, &'a str), Fault>
     Ok((pattern, sought))
 }
 
-/// The pattern of the member of this number; `None` for a regular expression.
+// The pattern of the member of this number; `None` for a regular expression.
 fn pattern_at(number: u32) -> Option<Pattern>
     ensures { result ≡ member_in string_members number }
 {

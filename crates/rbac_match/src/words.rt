@@ -16,7 +16,7 @@ use attributes::{Cidr, Ip, Request};
 use std::alloc::{AllocError, Global};
 use std::net::{Ipv4Addr, Ipv6Addr};
 
-/// How many characters of a text are shown.
+// How many characters of a text are shown.
 const SHOWN: usize = 100;
 
 impl Causes<'_> {
@@ -37,7 +37,7 @@ impl Causes<'_> {
     }
 }
 
-/// A cause in words.
+// A cause in words.
 fn words_of(
     alloc: Global,
     leaves: &Leaves,
@@ -51,7 +51,7 @@ fn words_of(
     Ok(text)
 }
 
-/// The path, with the names of the fields that hold rules.
+// The path, with the names of the fields that hold rules.
 fn path_words(alloc: Global, side: Side, path: &[Step]) -> Result<String, AllocError> {
     let mut text = String::new(alloc);
     for (depth, step) in path.iter().enumerate() {
@@ -87,7 +87,7 @@ fn joint_name(side: Side, joint: Joint) -> &'static str {
     }
 }
 
-/// The test at this place, and what the request has.
+// The test at this place, and what the request has.
 fn test_words(
     alloc: Global,
     leaves: &Leaves,
@@ -128,7 +128,7 @@ fn leaf_words(
     }
 }
 
-/// The test of a header's presence, and what the request has.
+// The test of a header's presence, and what the request has.
 fn present_words(
     alloc: Global,
     pool: &Pool,
@@ -142,7 +142,7 @@ fn present_words(
     header_words(alloc, pool, name, wanted, request)
 }
 
-/// The test of a header's text, and what the request has.
+// The test of a header's text, and what the request has.
 fn header_text_words(
     alloc: Global,
     pool: &Pool,
@@ -157,7 +157,7 @@ fn header_text_words(
     header_words(alloc, pool, name, wanted.as_str(), request)
 }
 
-/// The test of a number in a header, and what the request has.
+// The test of a number in a header, and what the request has.
 fn header_range_words(
     alloc: Global,
     pool: &Pool,
@@ -171,7 +171,7 @@ fn header_range_words(
     header_words(alloc, pool, name, wanted.as_str(), request)
 }
 
-/// The test of a header, in these words, and what the request has.
+// The test of a header, in these words, and what the request has.
 fn header_words(
     alloc: Global,
     pool: &Pool,
@@ -188,7 +188,7 @@ fn header_words(
     format!(in alloc; "header {shown}: {wanted}{flag}, is {found}")
 }
 
-/// The test of a text, such as `exact "alice"`.
+// The test of a text, such as `exact "alice"`.
 fn text_words(alloc: Global, pool: &Pool, test: &TextLeaf) -> Result<String, AllocError>
     requires { GoodText pool.now test.now }
 {
@@ -225,7 +225,7 @@ fn ends_name(ends: Ends) -> &'static str {
     }
 }
 
-/// The range of addresses, and the request's address.
+// The range of addresses, and the request's address.
 fn address_words(
     alloc: Global,
     source: AddressSource,
@@ -275,7 +275,7 @@ fn found_port(alloc: Global, request: &Request) -> Result<String, AllocError> {
     }
 }
 
-/// The test of the server name that the client requested, and this name.
+// The test of the server name that the client requested, and this name.
 fn server_name_words(
     alloc: Global,
     pool: &Pool,
@@ -292,7 +292,7 @@ fn server_name_words(
     format!(in alloc; "requested_server_name: {wanted}, is {found}")
 }
 
-/// The test of the path, and the path.
+// The test of the path, and the path.
 fn url_path_words(
     alloc: Global,
     pool: &Pool,
@@ -306,7 +306,7 @@ fn url_path_words(
     format!(in alloc; "url_path: {wanted}, is {found}")
 }
 
-/// That mutual TLS is required, and whether it is used.
+// That mutual TLS is required, and whether it is used.
 fn mutual_words(alloc: Global, request: &Request) -> Result<String, AllocError> {
     let found = match request.conn().mtls {
         Some(true) => "true",
@@ -316,7 +316,7 @@ fn mutual_words(alloc: Global, request: &Request) -> Result<String, AllocError> 
     format!(in alloc; "authenticated: mutual TLS, is {found}")
 }
 
-/// The test of the peer's name, and this name, or that the connection does not use mutual TLS.
+// The test of the peer's name, and this name, or that the connection does not use mutual TLS.
 fn named_words(
     alloc: Global,
     pool: &Pool,
@@ -335,7 +335,7 @@ fn named_words(
     format!(in alloc; "authenticated: {wanted}, is {found}")
 }
 
-/// A text of the request in quotes, if it is present.
+// A text of the request in quotes, if it is present.
 fn found_words(alloc: Global, text: Option<&str>) -> Result<String, AllocError> {
     match text {
         Some(text) => quoted(alloc, text),
@@ -343,7 +343,7 @@ fn found_words(alloc: Global, text: Option<&str>) -> Result<String, AllocError> 
     }
 }
 
-/// The first characters of the text in quotes, and `..` if more follow.
+// The first characters of the text in quotes, and `..` if more follow.
 fn quoted(alloc: Global, text: &str) -> Result<String, AllocError> {
     match text.char_indices().nth(SHOWN) {
         Some((count, _)) => {
@@ -354,7 +354,7 @@ fn quoted(alloc: Global, text: &str) -> Result<String, AllocError> {
     }
 }
 
-/// The text of a span of the pool.
+// The text of a span of the pool.
 fn part_text(pool: &Pool, span: Span) -> &str
     requires { IsWithin span pool.now }
 {

@@ -36,7 +36,7 @@ use proto_wire::{
 use rbac_match::RuleList;
 use std::alloc::Global;
 
-/// The most policies that a filter may have.
+// The most policies that a filter may have.
 const MOST_POLICIES: usize = 256;
 
 /// Reads the message of an HTTP RBAC filter (`envoy.extensions.filters.http.rbac.v3.RBAC`) for requests
@@ -80,7 +80,7 @@ pub fn admit_at(
     Ok(Admitted::new(rules, *limits))
 }
 
-/// Reads the rules of the filter's message.
+// Reads the rules of the filter's message.
 fn read_filter(
     alloc: Global,
     bytes: &[u8],
@@ -102,7 +102,7 @@ fn read_filter(
     inside_field(read_rules(alloc, &fields, limits, left), RULES, 0)
 }
 
-/// Refuses a filter without rules.
+// Refuses a filter without rules.
 fn require_rules(top: &[Field<'_>]) -> Result<(), Placed>
     ensures found { OnOk result (payloads filter_field.rules (map field_view top.now) ≢ []) }
     ensures fault { IfErr result (λ f. IsAt filter_field.rules Missing f
@@ -114,7 +114,7 @@ fn require_rules(top: &[Field<'_>]) -> Result<(), Placed>
     Ok(())
 }
 
-/// Reads the filter's rules from their fields, all of which are known.
+// Reads the filter's rules from their fields, all of which are known.
 fn read_rules(
     alloc: Global,
     fields: &[Field<'_>],
@@ -144,7 +144,7 @@ fn read_rules(
     Ok(FilterRules::new(action, list, policies, policy_index, bound))
 }
 
-/// Refuses rules with options of an audit log.
+// Refuses rules with options of an audit log.
 fn refuse_audit_options(fields: &[Field<'_>]) -> Result<(), Placed>
     ensures found { OnOk result (payloads rules_field.audit_logging_options (map field_view fields.now)
         ≡ []) }
@@ -157,7 +157,7 @@ fn refuse_audit_options(fields: &[Field<'_>]) -> Result<(), Placed>
     Ok(())
 }
 
-/// Refuses more policies than a filter may have.
+// Refuses more policies than a filter may have.
 fn refuse_many(count: usize) -> Result<(), Placed>
     ensures found { OnOk result (count ≤ most_policies) }
     ensures fault { IfErr result (λ f. IsAt rules_field.policies TooLarge f × (most_policies < count)) }
@@ -168,7 +168,7 @@ fn refuse_many(count: usize) -> Result<(), Placed>
     Ok(())
 }
 
-/// The action: the low 32 bits of the enum's number, and 0 if the field is absent.
+// The action: the low 32 bits of the enum's number, and 0 if the field is absent.
 fn read_action(fields: &[Field<'_>]) -> Result<Action, Placed>
     ensures { MatchResult result (λ action. action_in (map field_view fields.now)
         ≡ action_number action)

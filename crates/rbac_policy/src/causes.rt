@@ -51,7 +51,7 @@ impl Admitted {
     }
 }
 
-/// The causes of the policy at this place, if there is one. Its rules are in the list.
+// The causes of the policy at this place, if there is one. Its rules are in the list.
 fn causes_at<'a>(
     list: &'a RuleList,
     policies: &[NamedPolicy],
@@ -69,7 +69,7 @@ fn causes_at<'a>(
     }
 }
 
-/// The causes of a policy's sides.
+// The causes of a policy's sides.
 fn causes_of<'a>(
     list: &'a RuleList,
     policy: &NamedPolicy,

@@ -85,7 +85,7 @@ impl Condition {
     }
 }
 
-/// Whether an answer is true.
+// Whether an answer is true.
 fn is_true(answer: &Answer) -> bool
     ensures { result ≡ came_true (Some (answer_view answer.now)) }
 {
@@ -111,7 +111,7 @@ pub(crate) fn condition_of(
     enforced(alloc, id_of(&checked.tree), &typed, limits, left)
 }
 
-/// The condition of an elaborated expression, whose root has this id. The expression was read from some parts.
+// The condition of an elaborated expression, whose root has this id. The expression was read from some parts.
 fn enforced(
     alloc: Global,
     root: i64,
@@ -136,7 +136,7 @@ fn enforced(
     Ok(Condition { code, needs })
 }
 
-/// Refuses every type except bool, at the node with this id.
+// Refuses every type except bool, at the node with this id.
 fn require_bool(root: i64, found: &CelType) -> Result<(), Fault>
     ensures found { OnOk result (type_view found.now ≡ bool_type) }
     ensures fault { IfErr result (λ f. (type_view found.now ≢ bool_type) × (f.refusal ≡ NotBool)
@@ -148,7 +148,7 @@ fn require_bool(root: i64, found: &CelType) -> Result<(), Fault>
     Err(fault_of_node(Refusal::NotBool, root))
 }
 
-/// Verifies that the code answers a bool.
+// Verifies that the code answers a bool.
 fn verified(alloc: Global, code: Code) -> Result<Verified, Refusal>
     requires { Forward (code_view code) bool_type }
     ensures found { IfOk result (λ v. v ≡ code) }

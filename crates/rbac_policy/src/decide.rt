@@ -62,8 +62,8 @@ impl Admitted {
     }
 }
 
-/// The number of the first policy that matches the request. The policies' rules are in the list, and the
-/// index is theirs.
+// The number of the first policy that matches the request. The policies' rules are in the list, and the
+// index is theirs.
 fn first_match(
     alloc: Global,
     list: &RuleList,
@@ -95,8 +95,8 @@ fn first_match(
     }
 }
 
-/// The same, if the first policy does not match. Policies that the keys rule out are skipped, if there are
-/// keys. The first policy often settles a decision, so the numbers of a request are computed only after it.
+// The same, if the first policy does not match. Policies that the keys rule out are skipped, if there are
+// keys. The first policy often settles a decision, so the numbers of a request are computed only after it.
 #[inline(always)]
 fn first_later(
     alloc: Global,
@@ -129,7 +129,7 @@ fn first_later(
     Ok(None)
 }
 
-/// Whether the keys rule out the policy of this number, which then does not match.
+// Whether the keys rule out the policy of this number, which then does not match.
 #[inline(always)]
 fn is_ruled_out(request_keys: Option<&RequestKeys<'_>>, number: usize) -> bool
     ensures { (r : RequestValue) (ps : List (Policy Program))
@@ -141,7 +141,7 @@ fn is_ruled_out(request_keys: Option<&RequestKeys<'_>>, number: usize) -> bool
     }
 }
 
-/// Whether the policy matches the request: first its sides, and then its condition, if it has one.
+// Whether the policy matches the request: first its sides, and then its condition, if it has one.
 #[inline(always)]
 fn policy_matches(
     alloc: Global,
@@ -164,7 +164,7 @@ fn policy_matches(
     }
 }
 
-/// Whether some permission and some principal of the policy match the request.
+// Whether some permission and some principal of the policy match the request.
 #[inline(always)]
 fn sides_match(list: &RuleList, policy: &NamedPolicy, request: &Request) -> bool
     ensures { result ≡ sides_match request.now (policy_view list.now policy.now) }

@@ -178,7 +178,7 @@ impl Admitted {
     }
 }
 
-/// The name of the policy at this place.
+// The name of the policy at this place.
 fn name_in(policies: &[NamedPolicy], place: usize) -> Option<&str>
     ensures { option_map (λ name. name.now) result
         ≡ option_map (λ p. string_bytes p.name) (slice_get policies.now place) }

@@ -11,19 +11,19 @@ use proto_wire::{
 use rbac_match::{Side, path_in_rule, place_in_rule};
 use std::alloc::Global;
 
-/// The step from a filter's rules to a policy, by its index.
+// The step from a filter's rules to a policy, by its index.
 const TO_POLICY: usize = 1;
 
-/// The step from a policy to one of its rules, or to its condition.
+// The step from a policy to one of its rules, or to its condition.
 const INTO_POLICY: usize = 2;
 
-/// The step from a condition to its node, or to a field of a checked one.
+// The step from a condition to its node, or to a field of a checked one.
 const INTO_CONDITION: usize = 3;
 
-/// The step from a field of a checked condition to its node, or to its entry.
+// The step from a field of a checked condition to its node, or to its entry.
 const INTO_CHECKED: usize = 4;
 
-/// How many steps lead from a filter to a permission or a principal.
+// How many steps lead from a filter to a permission or a principal.
 const STEPS_TO_A_RULE: usize = 3;
 
 /// The part of the filter's message that has the fault with which `admit_at` refused it, such as
@@ -41,7 +41,7 @@ pub fn place_of_fault(alloc: Global, bytes: &[u8], fault: &Fault) -> Option<Stri
 // Each of these functions lends what it owns to the next. At an exit a function drops all that it owns, which
 // is expensive in a proof.
 
-/// The part of the filter's rules that has the fault.
+// The part of the filter's rules that has the fault.
 fn place_in_rules(alloc: Global, rules: &[&[u8]], fault: &Fault) -> Option<String> {
     let Some(step) = fault.place.step(TO_POLICY) else {
         return String::from_str(alloc, part_of_rules(fault)?).ok();
@@ -51,7 +51,7 @@ fn place_in_rules(alloc: Global, rules: &[&[u8]], fault: &Fault) -> Option<Strin
     place_in_entries(alloc, &entries, step.position as usize, fault)
 }
 
-/// The field of the filter's rules that has the fault.
+// The field of the filter's rules that has the fault.
 fn part_of_rules(fault: &Fault) -> Option<&'static str> {
     if fault.refusal == Refusal::UnknownField {
         return None;
@@ -63,7 +63,7 @@ fn part_of_rules(fault: &Fault) -> Option<&'static str> {
     }
 }
 
-/// The policy of this number, in the order of the policies' names, and the part of it that has the fault.
+// The policy of this number, in the order of the policies' names, and the part of it that has the fault.
 fn place_in_entries(
     alloc: Global,
     entries: &[&[u8]],
@@ -92,7 +92,7 @@ fn part_of_policy(alloc: Global, parts: &[&[u8]], fault: &Fault) -> Option<Strin
     format!(in alloc; ": {part}").ok()
 }
 
-/// The rule or the condition to which the step leads, and the part of it that has the fault.
+// The rule or the condition to which the step leads, and the part of it that has the fault.
 fn part_of_fields(
     alloc: Global,
     fields: &[Field<'_>],
@@ -107,8 +107,8 @@ fn part_of_fields(
     }
 }
 
-/// The part of a checked condition that has the fault: a node, as `checked_condition.expr, node 5`, or an entry of a
-/// map, as `checked_condition.type_map[5]`. For `TooCostly` it is the condition.
+// The part of a checked condition that has the fault: a node, as `checked_condition.expr, node 5`, or an entry of a
+// map, as `checked_condition.type_map[5]`. For `TooCostly` it is the condition.
 fn part_of_checked(alloc: Global, fault: &Fault) -> Option<String> {
     if fault.refusal == Refusal::TooCostly {
         return String::from_str(alloc, "checked_condition").ok();
@@ -122,7 +122,7 @@ fn part_of_checked(alloc: Global, fault: &Fault) -> Option<String> {
     }
 }
 
-/// The field of a checked expression that has the fault.
+// The field of a checked expression that has the fault.
 fn number_in_checked(fault: &Fault) -> Option<u32> {
     match fault.place.step(INTO_CONDITION) {
         Some(step) => Some(step.number),
@@ -130,7 +130,7 @@ fn number_in_checked(fault: &Fault) -> Option<u32> {
     }
 }
 
-/// A node of an expression, by the step to it. A node of the id 0 is not named.
+// A node of an expression, by the step to it. A node of the id 0 is not named.
 fn node_at(alloc: Global, name: &str, step: Option<Step>) -> Option<String> {
     match step {
         Some(Step { position, .. }) if position != 0 => {
@@ -140,7 +140,7 @@ fn node_at(alloc: Global, name: &str, step: Option<Step>) -> Option<String> {
     }
 }
 
-/// An entry of a map, by the step to it.
+// An entry of a map, by the step to it.
 fn entry_at(alloc: Global, name: &str, step: Option<Step>) -> Option<String> {
     match step {
         Some(Step { position, .. }) => format!(in alloc; "{name}[{position}]").ok(),
@@ -148,7 +148,7 @@ fn entry_at(alloc: Global, name: &str, step: Option<Step>) -> Option<String> {
     }
 }
 
-/// The rule of this side to which the step leads, and the path to the part of it that has the fault.
+// The rule of this side to which the step leads, and the path to the part of it that has the fault.
 fn part_of_side(
     alloc: Global,
     side: Side,
@@ -170,7 +170,7 @@ fn part_of_side(
     format!(in alloc; "{name}[{index}]{path}").ok()
 }
 
-/// How many fields of this number stand before the position.
+// How many fields of this number stand before the position.
 fn index_of(fields: &[Field<'_>], number: u32, position: usize) -> usize {
     let mut index = 0usize;
     for (at, field) in fields.iter().enumerate() {

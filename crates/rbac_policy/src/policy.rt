@@ -93,7 +93,7 @@ pub(crate) fn read_policies(
     Ok((policies, budget.steps - left.steps))
 }
 
-/// Reads the policy of an entry as `read_policy` does; it has this number in the order of names.
+// Reads the policy of an entry as `read_policy` does; it has this number in the order of names.
 fn read_entry(
     list: &mut RuleList,
     entry: &MapEntry<'_, &str>,
@@ -120,9 +120,9 @@ fn read_entry(
     )
 }
 
-/// Reads a policy from its parts, for requests within the limits; its condition may take what is left of a
-/// budget. Appends its rules to the list, where they stay if it grows. The place of a fault is the part of the
-/// policy that has it; it is the condition's expression if this takes more than is left.
+// Reads a policy from its parts, for requests within the limits; its condition may take what is left of a
+// budget. Appends its rules to the list, where they stay if it grows. The place of a fault is the part of the
+// policy that has it; it is the condition's expression if this takes more than is left.
 fn read_policy(
     list: &mut RuleList,
     name: &str,
@@ -157,7 +157,7 @@ fn read_policy(
     })
 }
 
-/// Refuses a policy that has both conditions.
+// Refuses a policy that has both conditions.
 fn refuse_both(fields: &[Field<'_>]) -> Result<(), Refusal>
     ensures found { OnOk result ((payloads policy_field.condition (map field_view fields.now) ≡ [])
         ⊎ (payloads policy_field.checked_condition (map field_view fields.now) ≡ [])) }
@@ -174,7 +174,7 @@ fn refuse_both(fields: &[Field<'_>]) -> Result<(), Refusal>
     Err(Refusal::BothConditions)
 }
 
-/// Reads the condition as `read_condition` does. The place of a fault is in the condition.
+// Reads the condition as `read_condition` does. The place of a fault is in the condition.
 fn condition_at(
     alloc: Global,
     fields: &[Field<'_>],
@@ -195,7 +195,7 @@ fn condition_at(
     }
 }
 
-/// The number of the field that has the condition, if there is one.
+// The number of the field that has the condition, if there is one.
 fn condition_number(fields: &[Field<'_>]) -> u32
     ensures { result ≡ condition_field (condition_in (map field_view fields.now)) }
 {
@@ -205,7 +205,7 @@ fn condition_number(fields: &[Field<'_>]) -> u32
     CONDITION
 }
 
-/// Reads the condition, checked or not, if there is one. The place of a fault names a node, or the entry of a map.
+// Reads the condition, checked or not, if there is one. The place of a fault names a node, or the entry of a map.
 fn read_condition(
     alloc: Global,
     fields: &[Field<'_>],
@@ -229,7 +229,7 @@ fn read_condition(
     Ok(Some(condition))
 }
 
-/// What was made of a condition's expression, or its fault as one of the condition.
+// What was made of a condition's expression, or its fault as one of the condition.
 #[inline(always)]
 fn inside_expr<T>(fields: &[Field<'_>], made: Result<T, Fault>) -> Result<T, Fault>
     ensures { MatchResult made (λ x. result ≡ Ok x)
@@ -242,7 +242,7 @@ fn inside_expr<T>(fields: &[Field<'_>], made: Result<T, Fault>) -> Result<T, Fau
     }
 }
 
-/// The fault of a condition's expression, as one of the condition: a checked condition has its expression in a field.
+// The fault of a condition's expression, as one of the condition: a checked condition has its expression in a field.
 #[cold]
 #[inline(never)]
 fn of_expr(fields: &[Field<'_>], fault: Fault) -> Fault
@@ -281,7 +281,7 @@ pub(crate) fn read_expr(alloc: Global, fields: &[Field<'_>]) -> Result<Checked, 
     read_unchecked_at(alloc, &parts)
 }
 
-/// Refuses a policy without permissions or without principals.
+// Refuses a policy without permissions or without principals.
 fn require_sides(fields: &[Field<'_>]) -> Result<(), Refusal>
     ensures found { OnOk result (HasBothSides (map field_view fields.now)) }
     ensures fault { IfErr result (λ e. ¬ (HasBothSides (map field_view fields.now))

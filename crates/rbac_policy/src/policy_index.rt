@@ -15,16 +15,16 @@ use attributes::Request;
 use rbac_match::{RuleList, Rules, header_name, header_value, path_start};
 use std::alloc::{AllocError, Global};
 
-/// How many bytes of a path's start are used, at most.
+// How many bytes of a path's start are used, at most.
 const MOST: usize = 64;
 
-/// How many of the last bytes of a header's value are used.
+// How many of the last bytes of a header's value are used.
 const LAST: usize = 24;
 
-/// A filter with fewer policies has no index.
+// A filter with fewer policies has no index.
 const FEWEST: usize = 8;
 
-/// The name of the header that has a request's method.
+// The name of the header that has a request's method.
 const METHOD: &str = ":method";
 
 /// What every request has that a policy matches: numbers for the first `count` bytes of its path, for a
@@ -116,7 +116,7 @@ impl<'a> RequestKeys<'a> {
         }
     }
 
-    /// Whether the request may have what the policy needs.
+    // Whether the request may have what the policy needs.
     #[inline(always)]
     fn meets(&self, need: &Need) -> bool
         ensures { (most : ℕ) (name : List ℕ) (r : RequestValue)
@@ -128,7 +128,7 @@ impl<'a> RequestKeys<'a> {
         }
     }
 
-    /// Whether the header's value and the method may be the needed ones.
+    // Whether the header's value and the method may be the needed ones.
     #[inline(always)]
     fn has_values(&self, need: &Need) -> bool
         ensures { ((need.now.value ≡ 0) ⊎ (self.now.value ≡ need.now.value))
@@ -138,7 +138,7 @@ impl<'a> RequestKeys<'a> {
     }
 }
 
-/// Whether no number is needed, or the needed number is the one that is seen.
+// Whether no number is needed, or the needed number is the one that is seen.
 #[inline(always)]
 fn is_seen(needed: u64, seen: u64) -> bool
     ensures { (needed ≡ 0) ⊎ (seen ≡ needed) → result ≡ true }
@@ -146,7 +146,7 @@ fn is_seen(needed: u64, seen: u64) -> bool
     needed == 0 || needed == seen
 }
 
-/// The number of bytes of the policies' longest start, up to the limit.
+// The number of bytes of the policies' longest start, up to the limit.
 fn most_count(list: &RuleList, policies: &[NamedPolicy]) -> usize {
     let mut most = 0;
     for policy in policies {
@@ -158,7 +158,7 @@ fn most_count(list: &RuleList, policies: &[NamedPolicy]) -> usize {
     lesser(most, MOST)
 }
 
-/// The lesser of two numbers.
+// The lesser of two numbers.
 fn lesser(one: usize, other: usize) -> usize
     ensures { (result ≤ one) × (result ≤ other) }
 {
@@ -168,7 +168,7 @@ fn lesser(one: usize, other: usize) -> usize
     other
 }
 
-/// The first header whose value the principals of a policy need.
+// The first header whose value the principals of a policy need.
 fn first_name<'a>(list: &'a RuleList, policies: &[NamedPolicy]) -> &'a str {
     for policy in policies {
         if let Some(name) = header_name(list, policy.principals) {
@@ -180,7 +180,7 @@ fn first_name<'a>(list: &'a RuleList, policies: &[NamedPolicy]) -> &'a str {
     ""
 }
 
-/// What each of the policies needs.
+// What each of the policies needs.
 fn needs_of(
     alloc: Global,
     list: &RuleList,
@@ -198,7 +198,7 @@ fn needs_of(
     Ok(needs)
 }
 
-/// Whether fewer than half of the needs can distinguish requests: every path has at least the start `/`.
+// Whether fewer than half of the needs can distinguish requests: every path has at least the start `/`.
 fn are_few(needs: &[Need]) -> bool {
     let mut count: usize = 0;
     for need in needs {
@@ -209,7 +209,7 @@ fn are_few(needs: &[Need]) -> bool {
     count < needs.len() / 2
 }
 
-/// What the policy needs.
+// What the policy needs.
 fn need_of(list: &RuleList, policy: &NamedPolicy, most: usize, name: &str) -> Need
     ensures { IsNeeded most name.now (policy_view list.now policy.now) result }
 {
@@ -223,8 +223,8 @@ fn need_of(list: &RuleList, policy: &NamedPolicy, most: usize, name: &str) -> Ne
     }
 }
 
-/// The number of the header's value in each request that at least one of these rules matches; 0 if none is
-/// known.
+// The number of the header's value in each request that at least one of these rules matches; 0 if none is
+// known.
 fn value_needed(list: &RuleList, rules: Rules, name: &str) -> u64
     ensures { (r : RequestValue) → some_hold r (rules_view list.now rules) ≡ true
         → result ≢ 0 → value_number (value_of r name.now) ≡ result }
@@ -235,7 +235,7 @@ fn value_needed(list: &RuleList, rules: Rules, name: &str) -> u64
     }
 }
 
-/// The numbers of the path's starts of up to `most` bytes; the index is the start's length.
+// The numbers of the path's starts of up to `most` bytes; the index is the start's length.
 fn starts_of(path: &[u8], most: usize) -> [u64; 65]
     ensures { (count : ℕ) → count ≤ most → count ≤ 64
         → get_or result count 0 ≡ start_number (take count path.now) }
@@ -252,7 +252,7 @@ fn starts_of(path: &[u8], most: usize) -> [u64; 65]
     starts
 }
 
-/// The number of a start with one more byte, if the path has one.
+// The number of a start with one more byte, if the path has one.
 #[inline(always)]
 fn next_number(number: u64, path: &[u8], count: usize) -> u64
     requires { number ≡ start_number (take count path.now) }
@@ -264,7 +264,7 @@ fn next_number(number: u64, path: &[u8], count: usize) -> u64
     }
 }
 
-/// The number of the value of the request's header of this name; a missing header counts as empty.
+// The number of the value of the request's header of this name; a missing header counts as empty.
 fn value_seen(request: &Request, name: &str) -> u64
     ensures { result ≡ value_number (value_of request.now name.now) }
 {
@@ -274,7 +274,7 @@ fn value_seen(request: &Request, name: &str) -> u64
     }
 }
 
-/// The number of a header's value.
+// The number of a header's value.
 fn number_of_value(value: &[u8]) -> u64
     ensures { result ≡ value_number value.now }
 {
@@ -282,7 +282,7 @@ fn number_of_value(value: &[u8]) -> u64
     number_from(value.len() as u64, &value[from..])
 }
 
-/// A number for bytes, computed from `before`, a number for what is before them.
+// A number for bytes, computed from `before`, a number for what is before them.
 fn number_from(before: u64, bytes: &[u8]) -> u64
     ensures { result ≡ number_from before bytes.now }
 {
@@ -293,7 +293,7 @@ fn number_from(before: u64, bytes: &[u8]) -> u64
     number
 }
 
-/// A number computed from a number and the next byte.
+// A number computed from a number and the next byte.
 #[inline(always)]
 fn mix(number: u64, byte: u8) -> u64
     ensures { result ≡ mix number byte }

@@ -58,7 +58,7 @@ impl Admitted {
     }
 }
 
-/// The policies up to the first that matches, each with its reason.
+// The policies up to the first that matches, each with its reason.
 fn try_policies<'a>(
     alloc: Global,
     list: &RuleList,
@@ -89,7 +89,7 @@ fn try_policies<'a>(
     Ok(trials)
 }
 
-/// Appends a trial.
+// Appends a trial.
 fn add<'a>(trials: &mut Vec<Trial<'a>>, trial: Trial<'a>) -> Result<(), AllocError>
     ensures { OnOk result (trials.new.items ≡ trials.old.items ++ trial.entry ∷ []) }
 {
@@ -97,7 +97,7 @@ fn add<'a>(trials: &mut Vec<Trial<'a>>, trial: Trial<'a>) -> Result<(), AllocErr
     Ok(())
 }
 
-/// The reason why the policy matches, or does not.
+// The reason why the policy matches, or does not.
 fn reason_of(
     alloc: Global,
     list: &RuleList,

@@ -129,7 +129,7 @@ impl Outbox {
         }
     }
 
-    /// The first bytes of those that wait were sent.
+    // The first bytes of those that wait were sent.
     fn forget(&mut self, count: usize) -> Sent
         requires { (0 < count) × (count ≤ length self.old) }
         ensures left { self.new ≡ drop count self.old }
@@ -144,7 +144,7 @@ impl Outbox {
     }
 }
 
-/// How a write ended that failed with this error.
+// How a write ended that failed with this error.
 fn ended_by(error: &io::Error) -> Sent
     ensures { (result ≡ Sent.Blocked) ⊎ (result ≡ Sent.Lost) }
 {

@@ -12,13 +12,13 @@ use std::{env, io};
 pub mod run;
 pub mod server;
 
-/// The words of the command line; the first is the program's own name.
+// The words of the command line; the first is the program's own name.
 fn words_of<R: Env + AllocGlobal>(rt: &R) -> io::Result<Vec<String>> {
     Ok(env::args(rt)?.collect(rt.alloc())?)
 }
 
-/// The index of the first word that is not UTF-8; 0 is the program's name. Words of more than 4,096 bytes are not
-/// examined.
+// The index of the first word that is not UTF-8; 0 is the program's name. Words of more than 4,096 bytes are not
+// examined.
 fn first_bad_word<R: Env>(rt: &R) -> Option<usize> {
     let mut room = [0u8; 4_096];
     for index in 0..usize::MAX {
@@ -35,7 +35,7 @@ fn first_bad_word<R: Env>(rt: &R) -> Option<usize> {
     None
 }
 
-/// Prints why the words of the command line cannot be read.
+// Prints why the words of the command line cannot be read.
 fn write_word_fault<R: Env, E: Write>(rt: &R, cause: io::Error, errors: &mut E) {
     let _ = match first_bad_word(rt) {
         Some(index) => writeln!(

@@ -37,7 +37,7 @@ pub fn run<S: AsStr, F: Source + Sockets + Hosts, R: BufRead + Drop, W: Write, E
     }
 }
 
-/// The job's fault if the words have this fault.
+// The job's fault if the words have this fault.
 fn words_fault(error: clap::Error) -> JobFault
     ensures memory { kind_of error ≡ WordsKind.OutOfMemory → result ≡ JobFault.Memory }
     ensures words { (result ≡ JobFault.Memory) ⊎ (result ≡ JobFault.Words error) }
@@ -48,7 +48,7 @@ fn words_fault(error: clap::Error) -> JobFault
     JobFault::Words(error)
 }
 
-/// Runs the job.
+// Runs the job.
 fn run_named<F: Source + Sockets + Hosts, R: BufRead + Drop, W: Write, E: Write>(
     alloc: Global,
     job: Job,

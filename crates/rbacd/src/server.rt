@@ -79,7 +79,7 @@ pub(crate) fn run_serve<F: Source + Hosts, W: Write, E: Write>(
     }
 }
 
-/// Serves until the server is to end. Returns the status.
+// Serves until the server is to end. Returns the status.
 fn served<F: Hosts, W: Write, E: Write>(
     alloc: Global,
     system: &F,
@@ -99,7 +99,7 @@ fn served<F: Hosts, W: Write, E: Write>(
     }
 }
 
-/// Prints why a server cannot begin, or cannot go on. Returns the status.
+// Prints why a server cannot begin, or cannot go on. Returns the status.
 fn end_by_host<W: Write, E: Write>(
     alloc: Global,
     fault: HostFault,
@@ -118,7 +118,7 @@ fn end_by_host<W: Write, E: Write>(
     }
 }
 
-/// The settings in the file at this path.
+// The settings in the file at this path.
 fn server_settings_in<F: Source>(
     alloc: Global,
     files: &F,

@@ -59,7 +59,7 @@ impl Admin {
         self.action.take()
     }
 
-    /// The answer to a request, and what it asks the server to do.
+    // The answer to a request, and what it asks the server to do.
     fn reply(&self, request: &Request<Bytes>) -> Result<(Reply, Option<AdminAction>), AllocError> {
         let alloc = self.alloc;
         if !names_local_host(request) {
@@ -85,7 +85,7 @@ impl Admin {
         Ok((self.shown(route)?, None))
     }
 
-    /// The answer to a request that asks the server to do something.
+    // The answer to a request that asks the server to do something.
     fn act(
         &self,
         request: &Request<Bytes>,
@@ -101,7 +101,7 @@ impl Admin {
         ))
     }
 
-    /// The answer that shows what a route has.
+    // The answer that shows what a route has.
     fn shown(&self, route: Route) -> Result<Reply, AllocError> {
         let alloc = self.alloc;
         let (media, body) = match route {
@@ -118,7 +118,7 @@ impl Admin {
         Ok(Reply::new(StatusCode::OK, media, body))
     }
 
-    /// Whether the server is ready, with the filters that have no policies.
+    // Whether the server is ready, with the filters that have no policies.
     fn ready(&self) -> Result<Reply, AllocError> {
         if self.status.is_ready() {
             return Reply::text(self.alloc, StatusCode::OK, "ready\n");
@@ -138,7 +138,7 @@ impl Admin {
     }
 }
 
-/// The page as one text.
+// The page as one text.
 fn page(alloc: Global) -> Result<Vec<u8>, AllocError> {
     let mut text = Vec::new(alloc);
     for part in PAGE {

@@ -6,9 +6,9 @@ use http1::Limits;
 use std::alloc::{AllocError, Global};
 use std::hash::RandomState;
 
-/// The greatest number of bytes of a head.
+// The greatest number of bytes of a head.
 const HEAD: usize = 16_384;
-/// The greatest number of bytes of a body.
+// The greatest number of bytes of a body.
 const BODY: usize = 1_024;
 
 const CONFIG: Config = Config {

@@ -1,6 +1,6 @@
 //! Faults of heads, by the status of the answer.
 
-/// How many statuses have a counter of their own.
+// How many statuses have a counter of their own.
 const STATUSES: usize = 16;
 
 /// How often each status was answered. A status that finds no free place is counted with the other ones.

@@ -31,7 +31,7 @@ pub(crate) fn has_own_origin(headers: &HeaderMap<HeaderValue>) -> bool {
         .all(|origin| is_origin_of(origin.as_bytes(), host))
 }
 
-/// Whether an origin is `http://` and this host.
+// Whether an origin is `http://` and this host.
 fn is_origin_of(origin: &[u8], host: &[u8]) -> bool {
     match origin.strip_prefix(b"http://") {
         Some(rest) => rest.eq_ignore_ascii_case(host),
@@ -46,7 +46,7 @@ fn is_local_value(value: &HeaderValue) -> bool {
     }
 }
 
-/// Whether a host, with or without a port, is an IP address or a loopback name.
+// Whether a host, with or without a port, is an IP address or a loopback name.
 fn is_local(host: &str) -> bool {
     if let Some(rest) = host.strip_prefix('[') {
         return match rest.split_once(']') {
@@ -65,7 +65,7 @@ fn is_address(text: &str) -> bool {
     text.parse::<IpAddr>().is_ok()
 }
 
-/// Whether a name is `localhost` or below it (RFC 6761, section 6.3).
+// Whether a name is `localhost` or below it (RFC 6761, section 6.3).
 fn is_loopback_name(name: &[u8]) -> bool {
     let name = name.strip_suffix(b".").unwrap_or(name);
     let local = b"localhost";

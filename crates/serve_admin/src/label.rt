@@ -14,7 +14,7 @@ pub fn push_escaped(text: &mut Vec<u8>, value: &str) -> Result<(), AllocError>
     Ok(())
 }
 
-/// Adds one byte of a label's value.
+// Adds one byte of a label's value.
 fn push_byte(text: &mut Vec<u8>, byte: u8) -> Result<(), AllocError>
     ensures { OnOk result (text.new.items ≡ text.old.items ++ escaped_byte byte) }
 {

@@ -21,7 +21,7 @@ pub struct Metrics {
     pub(crate) refused_connections: u64,
     pub(crate) open: u64,
     pub(crate) most_open: u64,
-    // how many may be open; 0 if that is not known
+    /// How many may be open; 0 if that is not known.
     pub(crate) limit: u64,
     pub(crate) closed: [u64; REASONS.len()],
     pub(crate) responses_accepted: u64,

@@ -7,15 +7,15 @@ use crate::status::Status;
 use serde::Serialize;
 use std::alloc::{AllocError, Global};
 
-/// The places of the verdicts that are neither allow nor deny.
+// The places of the verdicts that are neither allow nor deny.
 const OTHERS: [usize; 4] = [2, 3, 4, 5];
 
-/// What the page shows.
+// What the page shows.
 #[derive(Drop, Serialize)]
 struct PageData<'a> {
     ready: bool,
     status: &'a Status,
-    /// How often each policy matched, by filter and number.
+    // How often each policy matched, by filter and number.
     matches: Vec<&'a [u64]>,
     recent: RecentData,
     slowest: &'a [Admission],
@@ -23,10 +23,10 @@ struct PageData<'a> {
     most_open: u64,
 }
 
-/// The verdicts of the last minutes, the oldest bucket first.
+// The verdicts of the last minutes, the oldest bucket first.
 #[derive(Drop, Serialize)]
 struct RecentData {
-    /// The milliseconds of a bucket.
+    // The milliseconds of a bucket.
     bucket: u64,
     allow: Vec<u64>,
     deny: Vec<u64>,

@@ -65,7 +65,7 @@ impl Recent {
     }
 }
 
-/// The place of the bucket with a number.
+// The place of the bucket with a number.
 fn place_of(number: u64) -> usize {
     (number % BUCKETS as u64) as usize
 }

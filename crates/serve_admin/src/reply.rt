@@ -20,7 +20,7 @@ pub(crate) enum Media {
 pub(crate) struct Reply {
     status: StatusCode,
     media: Media,
-    /// The methods that the path takes, if the request has another one.
+    // The methods that the path takes, if the request has another one.
     allow: Option<&'static str>,
     body: Vec<u8>,
 }

@@ -3,17 +3,17 @@
 use serde::Serialize;
 use std::alloc::{AllocError, Global};
 
-/// How many are kept.
+// How many are kept.
 const KEPT: usize = 10;
-/// How many characters of a version are kept.
+// How many characters of a version are kept.
 const VERSION_KEPT: usize = 100;
 
 /// How long a response took.
 #[derive(Debug, Drop, Serialize)]
 pub(crate) struct Admission {
-    /// The response's version, or its first characters.
+    // The response's version, or its first characters.
     version: String,
-    /// When it was judged, in milliseconds since 1970.
+    // When it was judged, in milliseconds since 1970.
     time: u64,
     microseconds: u64,
 }
@@ -63,7 +63,7 @@ impl Slowest {
     }
 }
 
-/// The first characters of a text.
+// The first characters of a text.
 fn beginning(alloc: Global, text: &str) -> Result<String, AllocError> {
     let mut first = String::new(alloc);
     for ch in text.chars().take(VERSION_KEPT) {

@@ -106,7 +106,7 @@ impl MetricsText {
         self.sample(names.count, labels, histogram.count())
     }
 
-    /// Adds a name with labels, and a space.
+    // Adds a name with labels, and a space.
     fn named(&mut self, name: &str, labels: &[Label<'_>]) -> Result<(), AllocError> {
         self.push(name)?;
         let mut before = "{";

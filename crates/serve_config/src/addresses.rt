@@ -13,10 +13,10 @@ use crate::object::{Object, is_path};
 use serde_json::Value;
 use std::net::{IpAddr, Ipv4Addr, SocketAddr};
 
-/// How many addresses a server listens at, at most.
+// How many addresses a server listens at, at most.
 const MOST_ADDRESSES: usize = 16;
 
-/// How many bytes the path of a Unix socket has, at most.
+// How many bytes the path of a Unix socket has, at most.
 const LONGEST_UNIX_PATH: usize = 101;
 
 const BAD_LISTEN: &str = "is not a text or an array of 1 to 16 texts";
@@ -53,7 +53,7 @@ pub(crate) fn listen_at(whole: Object) -> Result<Vec<Address>, ServeConfigFault>
     }
 }
 
-/// The addresses that the items of `listen` spell.
+// The addresses that the items of `listen` spell.
 fn addresses_of(whole: Object, items: &[Value]) -> Result<Vec<Address>, ServeConfigFault>
     ensures { IfOk result (λ v. AllZip IsAddressText (map view items.now) v.items) }
 {
@@ -66,7 +66,7 @@ fn addresses_of(whole: Object, items: &[Value]) -> Result<Vec<Address>, ServeCon
     Ok(addresses)
 }
 
-/// The address that an item of `listen` spells.
+// The address that an item of `listen` spells.
 fn item_of(whole: Object, index: usize, item: &Value) -> Result<Address, ServeConfigFault>
     ensures { IfOk result (IsAddressText (view item.now)) }
 {
@@ -77,7 +77,7 @@ fn item_of(whole: Object, index: usize, item: &Value) -> Result<Address, ServeCo
     }
 }
 
-/// The address that a text of the member of this name spells.
+// The address that a text of the member of this name spells.
 fn address_of(whole: Object, name: &str, text: &str) -> Result<Address, ServeConfigFault>
     ensures { IfOk result (IsAddress text.now) }
 {
@@ -96,7 +96,7 @@ fn address_of(whole: Object, name: &str, text: &str) -> Result<Address, ServeCon
     }
 }
 
-/// The path of a Unix socket, if it is allowed.
+// The path of a Unix socket, if it is allowed.
 fn unix_path(whole: Object, name: &str, path: &str) -> Result<String, ServeConfigFault>
     ensures { IfOk result (λ s. (string_bytes s ≡ path.now) × IsUnixPath path.now) }
 {
@@ -112,7 +112,7 @@ fn is_unix_path(path: &str) -> bool
     is_path(path) && path.len() <= LONGEST_UNIX_PATH
 }
 
-/// The descriptor that these digits spell, from 3 to 1023 and without a leading zero.
+// The descriptor that these digits spell, from 3 to 1023 and without a leading zero.
 fn descriptor_of(digits: &str) -> Option<i32>
     ensures found { IfSome result (IsDescriptor digits.now) }
     ensures fault { IsNone result → (n : ℤ) → ¬ IsDescriptor digits.now n }
@@ -138,7 +138,7 @@ pub(crate) fn control_at(whole: Object) -> Result<ControlAddress, ServeConfigFau
     }
 }
 
-/// The address of the control plane that a text spells.
+// The address of the control plane that a text spells.
 fn control_of(whole: Object, text: &str) -> Result<ControlAddress, ServeConfigFault>
     ensures { IfOk result (IsControlAddress text.now) }
 {
@@ -160,7 +160,7 @@ fn control_of(whole: Object, text: &str) -> Result<ControlAddress, ServeConfigFa
     Ok(ControlAddress::Tcp(plane_at(whole, text)?))
 }
 
-/// The TCP address of the control plane that a text spells. Its port is not 0.
+// The TCP address of the control plane that a text spells. Its port is not 0.
 fn plane_at(whole: Object, text: &str) -> Result<SocketAddr, ServeConfigFault>
     ensures { IfOk result (λ a. IsSocketText text.now a × (0 < socket_port a)) }
 {
@@ -183,7 +183,7 @@ pub(crate) fn admin_at(whole: Object) -> Result<Option<SocketAddr>, ServeConfigF
     }
 }
 
-/// The address of the admin port that a number or a text spells.
+// The address of the admin port that a number or a text spells.
 fn admin_of(value: &Value) -> Option<SocketAddr>
     ensures { IfSome result (IsAdmin (view value.now)) }
 {
@@ -194,7 +194,7 @@ fn admin_of(value: &Value) -> Option<SocketAddr>
     Some(local(port))
 }
 
-/// A port at 127.0.0.1.
+// A port at 127.0.0.1.
 fn local(port: u16) -> SocketAddr
     ensures { IsLocalPort port result }
 {

@@ -17,13 +17,13 @@ const CALL_NAMES: [&str; 4] = ["method", "authority", "metadata", "keepalive"];
 
 const METADATA_NAMES: [&str; 2] = ["name", "value"];
 
-/// How many fields are sent with a call, at most, beside its own.
+// How many fields are sent with a call, at most, beside its own.
 const MOST_METADATA: usize = 32;
 
-/// How many bytes the name or the value of such a field has, at most.
+// How many bytes the name or the value of such a field has, at most.
 const LONGEST_METADATA: usize = 256;
 
-/// The fields that a call has by itself, or that HTTP/2 does not allow.
+// The fields that a call has by itself, or that HTTP/2 does not allow.
 const OWN_NAMES: [&str; 10] = [
     "te",
     "content-type",
@@ -98,7 +98,7 @@ pub(crate) fn call_at(whole: Object, control: &ControlAddress) -> Result<GrpcCal
     })
 }
 
-/// Which stream is called.
+// Which stream is called.
 fn method_at(call: Object) -> Result<CallMethod, ServeConfigFault>
     ensures { IfOk result (IsMethodBy (member_of (codes "method") (data_of call.entry))) }
 {
@@ -112,7 +112,7 @@ fn method_at(call: Object) -> Result<CallMethod, ServeConfigFault>
     }
 }
 
-/// The authority that the call names, if there is one.
+// The authority that the call names, if there is one.
 fn authority_at(call: Object) -> Result<Option<String>, ServeConfigFault>
     ensures { IfOk result (IsOrNull IsAuthority (member_of (codes "authority") (data_of call.entry))) }
 {
@@ -127,7 +127,7 @@ fn authority_at(call: Object) -> Result<Option<String>, ServeConfigFault>
     }
 }
 
-/// What else is sent with the call.
+// What else is sent with the call.
 fn metadata_at(call: Object) -> Result<Vec<Metadata>, ServeConfigFault>
     ensures { IfOk result (λ found. AreMetadata (member_of (codes "metadata") (data_of call.entry)) found.items) }
 {
@@ -140,7 +140,7 @@ fn metadata_at(call: Object) -> Result<Vec<Metadata>, ServeConfigFault>
     }
 }
 
-/// The fields that these items are.
+// The fields that these items are.
 fn fields_of(call: Object, items: &[Value]) -> Result<Vec<Metadata>, ServeConfigFault>
     ensures { IfOk result (λ found. AllZip IsMetadata (map view items.now) found.items) }
 {
@@ -153,7 +153,7 @@ fn fields_of(call: Object, items: &[Value]) -> Result<Vec<Metadata>, ServeConfig
     Ok(fields)
 }
 
-/// The field that an item of `metadata` is.
+// The field that an item of `metadata` is.
 fn field_of(call: Object, index: usize, item: &Value) -> Result<Metadata, ServeConfigFault>
     ensures { IfOk result (IsMetadata (view item.now)) }
 {
@@ -170,14 +170,14 @@ fn field_of(call: Object, index: usize, item: &Value) -> Result<Metadata, ServeC
     Ok(Metadata { name, value })
 }
 
-/// Whether a call may name this authority.
+// Whether a call may name this authority.
 fn is_authority(text: &[u8]) -> bool
     ensures { result ≡ is_authority text.now }
 {
     is_short(text) && are_visible(text)
 }
 
-/// Whether a field of this name may be sent with a call.
+// Whether a field of this name may be sent with a call.
 fn is_metadata_name(name: &str) -> bool
     ensures { IsTrue result ↔ IsMetadataName name.now }
 {
@@ -187,28 +187,28 @@ fn is_metadata_name(name: &str) -> bool
     !is_among(name, &OWN_NAMES)
 }
 
-/// Whether a field of this name may be sent with a call, unless the call has it by itself.
+// Whether a field of this name may be sent with a call, unless the call has it by itself.
 fn is_short_name(name: &str) -> bool
     ensures { result ≡ is_short_name name.now }
 {
     is_short(name.as_bytes()) && is_field_name(name) && !is_grpcs(name.as_bytes())
 }
 
-/// Whether a name is one that gRPC keeps for itself.
+// Whether a name is one that gRPC keeps for itself.
 fn is_grpcs(name: &[u8]) -> bool
     ensures { result ≡ is_grpcs name.now }
 {
     matches!(name, [b'g', b'r', b'p', b'c', b'-', ..])
 }
 
-/// Whether a field with this value may be sent with a call.
+// Whether a field with this value may be sent with a call.
 fn is_metadata_value(value: &[u8]) -> bool
     ensures { result ≡ is_metadata_value value.now }
 {
     is_short(value) && are_printable(value)
 }
 
-/// Whether a text has 1 to 256 bytes.
+// Whether a text has 1 to 256 bytes.
 fn is_short(text: &[u8]) -> bool
     ensures { result ≡ is_short text.now }
 {

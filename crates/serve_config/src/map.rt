@@ -32,7 +32,7 @@ pub(crate) enum Member {
     UriSanPeerCertificate,
 }
 
-/// Each member, in the order in which their fields are read.
+// Each member, in the order in which their fields are read.
 const MEMBERS: [Member; 12] = [
     Member::Method,
     Member::Target,
@@ -48,7 +48,7 @@ const MEMBERS: [Member; 12] = [
     Member::UriSanPeerCertificate,
 ];
 
-/// The names of the members, in the same order.
+// The names of the members, in the same order.
 const MAP_NAMES: [&str; 12] = [
     "method",
     "target",
@@ -84,7 +84,7 @@ const BAD_REQUIRE: &str = "is not an array of names of fields in lower case";
 const BAD_PATHS: &str = "is neither \"strict\" nor \"as_sent\"";
 
 impl Member {
-    /// The name of the member.
+    // The name of the member.
     fn name(self) -> &'static str
         ensures { result.now ≡ member_name self }
     {
@@ -118,7 +118,7 @@ pub(crate) fn mapping_at(whole: Object) -> Result<Mapping, ServeConfigFault>
     }
 }
 
-/// What is wrong with a mapping.
+// What is wrong with a mapping.
 fn cause_of(fault: MappingFault) -> &'static str {
     match fault {
         MappingFault::BadName => BAD_FIELD,
@@ -128,7 +128,7 @@ fn cause_of(fault: MappingFault) -> &'static str {
     }
 }
 
-/// The fields that these members name.
+// The fields that these members name.
 fn named_by(map: Object, members: &[Member]) -> Result<Vec<NamedFact>, ServeConfigFault>
     ensures { IfOk result (λ named. AllZip IsNamedBy (present (data_of map.entry) members.now) named.items) }
 {
@@ -146,12 +146,12 @@ fn named_by(map: Object, members: &[Member]) -> Result<Vec<NamedFact>, ServeConf
     Ok(named)
 }
 
-/// Whether one of these has this field.
+// Whether one of these has this field.
 fn is_named(named: &[NamedFact], field: &str) -> bool {
     named.iter().any(|one| one.field.as_str() == field)
 }
 
-/// The field that a member names, and what it holds.
+// The field that a member names, and what it holds.
 fn named_of(map: Object, member: Member, value: &Value) -> Result<NamedFact, ServeConfigFault>
     ensures { IfOk result (IsNamedBy (member, view value.now)) }
 {
@@ -171,7 +171,7 @@ fn named_of(map: Object, member: Member, value: &Value) -> Result<NamedFact, Ser
     }
 }
 
-/// The field that a member names by a text.
+// The field that a member names by a text.
 fn plain(
     map: Object,
     member: Member,
@@ -185,7 +185,7 @@ fn plain(
     Ok(NamedFact { field, fact })
 }
 
-/// The field that holds the address of the request: a name, or an object with a name and a place from the right.
+// The field that holds the address of the request: a name, or an object with a name and a place from the right.
 fn address_of(map: Object, value: &Value) -> Result<NamedFact, ServeConfigFault>
     ensures { IfOk result (IsNamedBy (members.RemoteIp, view value.now)) }
 {
@@ -205,7 +205,7 @@ fn address_of(map: Object, value: &Value) -> Result<NamedFact, ServeConfigFault>
     })
 }
 
-/// The field that says whether the client showed a certificate, and the text with which it does.
+// The field that says whether the client showed a certificate, and the text with which it does.
 fn certificate_of(map: Object, value: &Value) -> Result<NamedFact, ServeConfigFault>
     ensures { IfOk result (IsNamedBy (members.Mtls, view value.now)) }
 {
@@ -223,7 +223,7 @@ fn certificate_of(map: Object, value: &Value) -> Result<NamedFact, ServeConfigFa
     }
 }
 
-/// The name of a field that a value is.
+// The name of a field that a value is.
 fn field_of(
     object: Object,
     name: &str,
@@ -238,7 +238,7 @@ fn field_of(
     }
 }
 
-/// The names of the fields that have to be there beside those that are named.
+// The names of the fields that have to be there beside those that are named.
 fn required_at(whole: Object, named: &[NamedFact]) -> Result<Vec<String>, ServeConfigFault>
     ensures { IfOk result (λ names. AreRequired (member_of (codes "require") (data_of whole.entry))
         (map string_bytes names.items)) }
@@ -250,7 +250,7 @@ fn required_at(whole: Object, named: &[NamedFact]) -> Result<Vec<String>, ServeC
     }
 }
 
-/// The names that these items are.
+// The names that these items are.
 fn names_of(
     whole: Object,
     named: &[NamedFact],
@@ -270,7 +270,7 @@ fn names_of(
     Ok(names)
 }
 
-/// The name that an item of `require` is.
+// The name that an item of `require` is.
 fn name_at(whole: Object, index: usize, item: &Value) -> Result<String, ServeConfigFault>
     ensures { IfOk result (λ name. view item.now ≡ string (string_bytes name)) }
 {
@@ -278,7 +278,7 @@ fn name_at(whole: Object, index: usize, item: &Value) -> Result<String, ServeCon
     field_of(whole, path.as_str(), item, BAD_FIELD)
 }
 
-/// How an item of `require` is called.
+// How an item of `require` is called.
 fn item_name(whole: Object, index: usize) -> Result<String, ServeConfigFault> {
     Ok(format!(in whole.alloc; "require[{index}]")?)
 }

@@ -34,7 +34,7 @@ pub fn meaning(alloc: Global, config: &ServeConfig) -> Result<String, AllocError
     Ok(text)
 }
 
-/// The line of the call. Of the fields that are sent with it, it has only the names.
+// The line of the call. Of the fields that are sent with it, it has only the names.
 fn write_call(text: &mut String, call: &GrpcCall) -> Result<(), AllocError> {
     let method = match call.method {
         CallMethod::Ads => "ads",
@@ -50,7 +50,7 @@ fn write_call(text: &mut String, call: &GrpcCall) -> Result<(), AllocError> {
     writeln!(text, " keepalive {} milliseconds", call.keepalive)
 }
 
-/// The lines of the times.
+// The lines of the times.
 fn write_times(text: &mut String, config: &ServeConfig) -> Result<(), AllocError> {
     let Timeouts {
         head,
@@ -71,7 +71,7 @@ fn write_times(text: &mut String, config: &ServeConfig) -> Result<(), AllocError
     writeln!(text, "nack_pause {} milliseconds", config.nack_pause)
 }
 
-/// The lines of the logs and the record.
+// The lines of the logs and the record.
 fn write_logs(text: &mut String, config: &ServeConfig) -> Result<(), AllocError> {
     match &config.access_log {
         Some(log) => writeln!(text, "access_log path {:?} sample {}", log.path, log.sample)?,
@@ -91,7 +91,7 @@ fn write_logs(text: &mut String, config: &ServeConfig) -> Result<(), AllocError>
     }
 }
 
-/// The lines of the fields that are mapped or required.
+// The lines of the fields that are mapped or required.
 fn write_mapping(text: &mut String, mapping: &Mapping) -> Result<(), AllocError> {
     for one in mapping.named() {
         write!(text, "map {} {}", fact_name(&one.fact), one.field)?;

@@ -12,16 +12,16 @@ use serde_json::Value;
 use std::alloc::{AllocError, Global};
 use std::ops::RangeInclusive;
 
-/// The reason for which a path is refused.
+// The reason for which a path is refused.
 const BAD_PATH: &str = "is not a text of at least one byte without NUL";
 
 /// An object of the configuration, and where it is.
 #[derive(Clone, Copy)]
 pub(crate) struct Object<'a> {
     pub(crate) alloc: Global,
-    /// The object; `None` if it is absent.
+    // The object; `None` if it is absent.
     value: Option<&'a Value>,
-    /// Its name; empty for the whole configuration.
+    // Its name; empty for the whole configuration.
     name: &'a str,
 }
 
@@ -97,7 +97,7 @@ impl<'a> Object<'a> {
         }
     }
 
-    /// Refuses a value that is no object, or that has a member whose name is not among these.
+    // Refuses a value that is no object, or that has a member whose name is not among these.
     fn require_names(self, names: &[&str]) -> Result<(), ServeConfigFault>
         ensures found { OnOk result (IfSome (data_of self.entry) (HasOnly (map (λ n. n.now) names.now))) }
         ensures fault { IfErr result (λ e. (e ≡ ServeConfigFault.Memory)
@@ -112,7 +112,7 @@ impl<'a> Object<'a> {
         }
     }
 
-    /// The fault of a value that is no object, or that has a member whose name is not among these.
+    // The fault of a value that is no object, or that has a member whose name is not among these.
     fn bad_object(self, value: &Value, names: &[&str]) -> Result<ServeConfigFault, AllocError> {
         if let Some(name) = first_unknown(value, names) {
             return self.unknown(name, names);
@@ -125,7 +125,7 @@ impl<'a> Object<'a> {
         Ok(whole.refuse(name, "is not an object"))
     }
 
-    /// The fault of a member whose name is not among these.
+    // The fault of a member whose name is not among these.
     fn unknown(self, name: &str, names: &[&str]) -> Result<ServeConfigFault, AllocError> {
         let mut reason = format!(in self.alloc; "there is no member {name:?}; the members are")?;
         let mut mark = " ";
@@ -235,7 +235,7 @@ impl<'a> Object<'a> {
     }
 }
 
-/// The first name of an object's members that is not among these.
+// The first name of an object's members that is not among these.
 fn first_unknown<'v>(value: &'v Value, names: &[&str]) -> Option<&'v str> {
     for key in value.as_object()?.keys() {
         let name = key.as_str();

@@ -13,7 +13,7 @@ use crate::object::Object;
 use serde_json::Value;
 use std::alloc::Global;
 
-/// The members that a configuration may have.
+// The members that a configuration may have.
 const NAMES: [&str; 18] = [
     "proxy",
     "facts",
@@ -86,7 +86,7 @@ pub fn read_serve_config(alloc: Global, value: &Value) -> Result<ServeConfig, Se
     })
 }
 
-/// The times that things may take.
+// The times that things may take.
 fn timeouts_at(whole: Object) -> Result<Timeouts, ServeConfigFault>
     ensures { IfOk result (AreTimeouts (member_of (codes "timeouts") (data_of whole.entry))) }
 {
@@ -101,7 +101,7 @@ fn timeouts_at(whole: Object) -> Result<Timeouts, ServeConfigFault>
     })
 }
 
-/// The first and the greatest time before a control plane is tried again.
+// The first and the greatest time before a control plane is tried again.
 fn backoff_at(whole: Object) -> Result<(u64, u64), ServeConfigFault>
     ensures { IfOk result (λ waits. AreWaits (member_of (codes "backoff") (data_of whole.entry)) waits.0 waits.1) }
 {
@@ -118,7 +118,7 @@ fn backoff_at(whole: Object) -> Result<(u64, u64), ServeConfigFault>
     Ok((first, greatest))
 }
 
-/// Where decisions are logged, if they are.
+// Where decisions are logged, if they are.
 fn access_log_at(whole: Object) -> Result<Option<AccessLog>, ServeConfigFault>
     ensures { IfOk result (IsOrNull IsAccessLog (member_of (codes "access_log") (data_of whole.entry))) }
 {
@@ -130,7 +130,7 @@ fn access_log_at(whole: Object) -> Result<Option<AccessLog>, ServeConfigFault>
     Ok(Some(AccessLog { path, sample }))
 }
 
-/// Where events are recorded, if they are.
+// Where events are recorded, if they are.
 fn record_at(whole: Object) -> Result<Option<Record>, ServeConfigFault>
     ensures { IfOk result (IsOrNull IsEventRecord (member_of (codes "record") (data_of whole.entry))) }
 {

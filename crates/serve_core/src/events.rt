@@ -15,7 +15,7 @@ use rbac_serve::Worker;
 use serve_loop::{Event, Outcome, Stream};
 use std::alloc::AllocError;
 
-/// The outcome of an event that completes no message.
+// The outcome of an event that completes no message.
 fn begun(closes: bool) -> Outcome
     ensures { result.closes ≡ closes }
 {
@@ -28,7 +28,7 @@ fn begun(closes: bool) -> Outcome
     }
 }
 
-/// A connection with these facts was accepted in a place.
+// A connection with these facts was accepted in a place.
 fn accept(worker: &mut Worker, k: usize, conn: &Conn) -> Result<Outcome, AllocError>
     ensures { MatchResult result
         (λ outcome. Does (worker_view worker.old) (took (accepted k conn.now) (answered [] outcome.closes)) (worker_view worker.new))
@@ -43,7 +43,7 @@ fn accept(worker: &mut Worker, k: usize, conn: &Conn) -> Result<Outcome, AllocEr
     }
 }
 
-/// The connection in a place delivers bytes.
+// The connection in a place delivers bytes.
 fn receive(
     worker: &mut Worker,
     k: usize,
@@ -76,7 +76,7 @@ fn receive(
     }
 }
 
-/// The update stream was connected.
+// The update stream was connected.
 fn connect(worker: &mut Worker) -> Result<Outcome, AllocError>
     ensures { MatchResult result
         (λ outcome. Does (worker_view worker.old) (took connected (answered (worker_view worker.new).requests outcome.closes))
@@ -92,7 +92,7 @@ fn connect(worker: &mut Worker) -> Result<Outcome, AllocError>
     }
 }
 
-/// Whether the last response was refused.
+// Whether the last response was refused.
 fn ends_refused(judgements: &[Judgement]) -> bool {
     match judgements.last() {
         Some(judgement) => match judgement.outcome {
@@ -103,7 +103,7 @@ fn ends_refused(judgements: &[Judgement]) -> bool {
     }
 }
 
-/// The update stream delivers bytes, while no request waits.
+// The update stream delivers bytes, while no request waits.
 fn update(worker: &mut Worker, bytes: &[u8], last: &mut LastEvent) -> Result<Outcome, AllocError>
     requires none { (worker_view worker.old).requests ≡ [] }
     requires quiet { IsQuiet last.old }
@@ -137,7 +137,7 @@ fn update(worker: &mut Worker, bytes: &[u8], last: &mut LastEvent) -> Result<Out
     }
 }
 
-/// A stream delivers bytes.
+// A stream delivers bytes.
 fn got(
     worker: &mut Worker,
     stream: Stream,
@@ -161,7 +161,7 @@ fn got(
     }
 }
 
-/// A stream was closed.
+// A stream was closed.
 fn close(worker: &mut Worker, stream: Stream)
     ensures { Does (worker_view worker.old) (took (closed stream) (answered [] false)) (worker_view worker.new) }
 {

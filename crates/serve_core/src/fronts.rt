@@ -46,7 +46,7 @@ pub(crate) fn free_places(
     Ok(connections)
 }
 
-/// Puts a connection, or none, in a place, and returns the one that was there. If there is no such place, it puts none.
+// Puts a connection, or none, in a place, and returns the one that was there. If there is no such place, it puts none.
 fn put(
     connections: &mut Vec<Option<FrontConnection>>,
     k: usize,
@@ -61,7 +61,7 @@ fn put(
     put_within(connections, k, connection)
 }
 
-/// The same, where there is such a place.
+// The same, where there is such a place.
 fn put_within(
     connections: &mut Vec<Option<FrontConnection>>,
     k: usize,
@@ -74,7 +74,7 @@ fn put_within(
     mem::replace(&mut connections[k], connection)
 }
 
-/// The outcome of an event of a connection that completes no message.
+// The outcome of an event of a connection that completes no message.
 fn begun(closes: bool) -> Outcome
     ensures { result.closes ≡ closes }
 {

@@ -96,7 +96,7 @@ impl FrontPlace<'_> {
     }
 }
 
-/// Whether the head of a request of this protocol is of HTTP/1.1 or, if not, of HTTP/1.0.
+// Whether the head of a request of this protocol is of HTTP/1.1 or, if not, of HTTP/1.0.
 fn is_http11(protocol: Protocol) -> bool
     ensures { result ≡ spells_http11 protocol }
 {
@@ -106,8 +106,8 @@ fn is_http11(protocol: Protocol) -> bool
     }
 }
 
-/// Has the request of a client judged, which is a connection of its own in a place of the core. It is closed again,
-/// also after an error.
+// Has the request of a client judged, which is a connection of its own in a place of the core. It is closed again,
+// also after an error.
 fn judge_client(
     alloc: Global,
     core: &mut WorkerService,

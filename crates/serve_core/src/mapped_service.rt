@@ -70,7 +70,7 @@ impl<'m> MappedService<'m> {
     }
 }
 
-/// The turns and one more: the event was answered by these bytes.
+// The turns and one more: the event was answered by these bytes.
 fn with_answer(
     trace: &Trace<Conn>,
     event: &Event<'_, Conn>,

@@ -7,7 +7,7 @@ use attributes::Conn;
 use serve_loop::{Event, Stream};
 use std::marker::Model;
 
-/// How many bytes of a stream show another protocol.
+// How many bytes of a stream show another protocol.
 const ENOUGH: usize = 9;
 
 /// A protocol that a control plane speaks by mistake.
@@ -67,7 +67,7 @@ impl FirstBytes {
         }
     }
 
-    /// The first of these and of further bytes.
+    // The first of these and of further bytes.
     fn with(&self, bytes: &[u8]) -> FirstBytes
         ensures { result ≡ take 9 (self.now ++ bytes.now) }
     {
@@ -88,7 +88,7 @@ impl FirstBytes {
         ENOUGH - self.count
     }
 
-    /// The bytes.
+    // The bytes.
     fn as_slice(&self) -> &[u8]
         ensures { result.now ≡ self.now }
     {
@@ -96,8 +96,8 @@ impl FirstBytes {
     }
 }
 
-/// The other protocol that the bytes begin with, if they do. That is the SETTINGS frame with which each HTTP/2
-/// connection begins, or a record of TLS. No response begins with such bytes.
+// The other protocol that the bytes begin with, if they do. That is the SETTINGS frame with which each HTTP/2
+// connection begins, or a record of TLS. No response begins with such bytes.
 fn other_protocol_in(first: &[u8]) -> Option<OtherProtocol>
     ensures { Speaks first.now result }
 {
@@ -110,7 +110,7 @@ fn other_protocol_in(first: &[u8]) -> Option<OtherProtocol>
     None
 }
 
-/// Whether the bytes begin with the head of a SETTINGS frame of HTTP/2 with up to 42 settings.
+// Whether the bytes begin with the head of a SETTINGS frame of HTTP/2 with up to 42 settings.
 fn is_http2(first: &[u8]) -> bool
     ensures { IsTrue result ↔ IsHttp2 first.now }
 {
@@ -120,21 +120,21 @@ fn is_http2(first: &[u8]) -> bool
     is_settings(first) && is_of_stream_zero(&first[4..])
 }
 
-/// Whether the bytes begin with the length and the type of such a frame.
+// Whether the bytes begin with the length and the type of such a frame.
 fn is_settings(first: &[u8]) -> bool
     ensures { IsTrue result ↔ IsSettings first.now }
 {
     first.len() >= 4 && first[0] == 0 && first[1] == 0 && first[2] % 6 == 0 && first[3] == 4
 }
 
-/// Whether the bytes begin with flags, and the number of the stream 0.
+// Whether the bytes begin with flags, and the number of the stream 0.
 fn is_of_stream_zero(rest: &[u8]) -> bool
     ensures { IsTrue result ↔ IsOfStreamZero rest.now }
 {
     rest.len() >= 5 && rest[1] == 0 && rest[2] == 0 && rest[3] == 0 && rest[4] == 0
 }
 
-/// Whether the bytes begin with an alert or a handshake of TLS.
+// Whether the bytes begin with an alert or a handshake of TLS.
 fn is_tls(first: &[u8]) -> bool
     ensures { IsTrue result ↔ IsTls first.now }
 {

@@ -21,7 +21,7 @@ use std::alloc::{AllocError, Global};
 pub struct WorkerService {
     pub(crate) alloc: Global,
     pub(crate) worker: Worker,
-    // how many bytes of the update stream it takes: none while a request waits
+    /// How many bytes of the update stream it takes: none while a request waits.
     pub(crate) room: usize,
     pub(crate) first: FirstBytes,
     pub(crate) last: LastEvent,

@@ -13,11 +13,11 @@ use std::io::{ErrorKind, Input};
 use std::net::Net;
 use std::rt::Clock;
 
-/// How many connections to the admin port are served at once.
+// How many connections to the admin port are served at once.
 const PLACES: usize = 16;
-/// One place more is only for a connection that takes the place of the one that is silent for the longest time.
+// One place more is only for a connection that takes the place of the one that is silent for the longest time.
 const ALL_PLACES: usize = PLACES + 1;
-/// How long such a connection may take, in milliseconds.
+// How long such a connection may take, in milliseconds.
 const TIME: u64 = 10_000;
 
 /// What is to be done at the admin port.

@@ -5,9 +5,9 @@ use serve_net::NetStream;
 use std::alloc::AllocError;
 use std::io::{ErrorKind, Read, Write};
 
-/// How many bytes are read at once.
+// How many bytes are read at once.
 const CHUNK: usize = 4_096;
-/// How often a connection is written in one turn.
+// How often a connection is written in one turn.
 const WRITES: u8 = 64;
 
 /// A connection to the admin port.

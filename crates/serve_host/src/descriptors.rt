@@ -5,12 +5,12 @@ ghost use Rattle.serve_host.specs.Descriptors.{fitting_below};
 use std::fs::{File, Files};
 use std::io::{self, Read};
 
-/// The file in which the system says a process's limits.
+// The file in which the system says a process's limits.
 const LIMITS: &str = "/proc/self/limits";
-/// How its line begins that has the limit of open files. The soft limit is the next word.
+// How its line begins that has the limit of open files. The soft limit is the next word.
 const OPEN_FILES: &str = "Max open files";
 
-/// How many descriptors are kept for the admin port, the listeners, the control plane and the logs.
+// How many descriptors are kept for the admin port, the listeners, the control plane and the logs.
 const RESERVE: u64 = 64;
 
 /// How many connections this limit of open files leaves room for: as many as it has beside the reserve. They are at least

@@ -6,9 +6,9 @@ use std::alloc::{AllocError, Global};
 use std::fs::{File, OpenOptions};
 use std::io;
 
-/// The path under which the system has this process's standard error.
+// The path under which the system has this process's standard error.
 const ERRORS: &str = "/proc/self/fd/2";
-/// How many standard streams a process has.
+// How many standard streams a process has.
 const STREAMS: u8 = 3;
 
 /// Standard error. It is opened once more, so that a pipe whose reader stops does not stop the server, and so that its

@@ -18,11 +18,11 @@ use std::io::{self, ErrorKind, Input, Read, Write};
 use std::net::Net;
 use std::rt::Clock;
 
-/// How often the memory that the process takes is read, and faults of logs are reported, in milliseconds.
+// How often the memory that the process takes is read, and faults of logs are reported, in milliseconds.
 const PAUSE: u64 = 1_000;
-/// How many logs there are, of which each may report its faults.
+// How many logs there are, of which each may report its faults.
 const LOGS: u8 = 3;
-/// The size of a page of memory in bytes, on x86-64.
+// The size of a page of memory in bytes, on x86-64.
 const PAGE: u64 = 4_096;
 
 /// The admin port, and when something was last done.

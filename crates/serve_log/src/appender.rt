@@ -5,7 +5,7 @@ use crate::waiting::{Waiting, Written};
 use std::alloc::Global;
 use std::io::Write;
 
-/// How long no write is tried after one failed, in milliseconds.
+// How long no write is tried after one failed, in milliseconds.
 const PAUSE: u64 = 1_000;
 
 /// A writer of lines, and the lines that wait for it.

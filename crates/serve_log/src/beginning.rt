@@ -11,7 +11,7 @@ use std::io::Write;
 /// The greatest number of bytes in the event of a line.
 pub(crate) const MOST_PIECE: usize = 65_536;
 
-/// How many responses that change nothing are in one line.
+// How many responses that change nothing are in one line.
 const BLOCK: u64 = 256;
 
 /// Writes events that bring a new proxy core to the policies and the number of accepted responses of these updates. The
@@ -40,7 +40,7 @@ pub(crate) fn begin<W: Write + Drop>(
     Ok(())
 }
 
-/// Puts bytes of the stream, in pieces.
+// Puts bytes of the stream, in pieces.
 fn put_bytes<W: Write + Drop>(
     alloc: Global,
     bytes: &[u8],
@@ -52,7 +52,7 @@ fn put_bytes<W: Write + Drop>(
     Ok(())
 }
 
-/// Puts so many responses that change nothing.
+// Puts so many responses that change nothing.
 fn put_empty<W: Write + Drop>(
     alloc: Global,
     count: u64,
@@ -70,7 +70,7 @@ fn put_empty<W: Write + Drop>(
     Ok(())
 }
 
-/// The line of so many responses that change nothing.
+// The line of so many responses that change nothing.
 fn empty_line(alloc: Global, count: u64) -> Result<String, AllocError> {
     let frame = empty_response(alloc)?;
     let mut bytes = Vec::new(alloc);

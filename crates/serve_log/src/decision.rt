@@ -48,7 +48,7 @@ pub fn decision_line(alloc: Global, decision: &Decision<'_>) -> Result<String, A
     object.line()
 }
 
-/// Puts the connection and the request.
+// Puts the connection and the request.
 fn put_request(object: &mut Object, decision: &Decision<'_>) -> Result<(), AllocError> {
     object.put_number("connection", decision.connection)?;
     object.put_or_null("peer", decision.peer)?;
@@ -58,7 +58,7 @@ fn put_request(object: &mut Object, decision: &Decision<'_>) -> Result<(), Alloc
     object.put_or_null("fault", decision.fault)
 }
 
-/// Puts the answer, and what decided.
+// Puts the answer, and what decided.
 fn put_answer(object: &mut Object, decision: &Decision<'_>) -> Result<(), AllocError> {
     object.put_text("verdict", decision.verdict)?;
     object.put_number("status", decision.status as u64)?;
@@ -79,7 +79,7 @@ pub(crate) fn put_time(
     }
 }
 
-/// A place in the record, or `null`.
+// A place in the record, or `null`.
 fn position_value(alloc: Global, position: Option<&RecordPosition>) -> Result<Value, AllocError> {
     let Some(position) = position else {
         return Ok(Value::Null);

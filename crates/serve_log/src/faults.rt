@@ -5,7 +5,7 @@ use crate::waiting::LostLine;
 use std::alloc::{AllocError, Global};
 use std::{fmt, io};
 
-/// How long nothing is said after a report, in milliseconds.
+// How long nothing is said after a report, in milliseconds.
 const QUIET: u64 = 60_000;
 
 /// Why a line is lost or a file cannot be used.
@@ -123,7 +123,7 @@ impl LogFaults {
     }
 }
 
-/// The text of a report.
+// The text of a report.
 fn text_of(
     alloc: Global,
     name: &str,

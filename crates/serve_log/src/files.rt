@@ -5,7 +5,7 @@ use std::io::{self, ErrorKind, Write};
 use std::os::unix::fs::{FileTypeExt, OpenOptionsExt};
 use std::rt::Stderr;
 
-/// The permissions of a log that is made: its owner writes it, its group reads it.
+// The permissions of a log that is made: its owner writes it, its group reads it.
 const MODE: u32 = 0o640;
 
 /// The files of logs.

@@ -75,7 +75,7 @@ impl FileNames {
     }
 }
 
-/// Passes on how a file was renamed. That there is no such file is no fault.
+// Passes on how a file was renamed. That there is no such file is no fault.
 fn passed(renamed: io::Result<()>) -> Result<(), Fault> {
     match renamed {
         Ok(()) => Ok(()),

@@ -6,7 +6,7 @@ use std::alloc::{AllocError, Global};
 use std::io::Write;
 use std::mem;
 
-/// How many old files stay open for connections that are not fresh.
+// How many old files stay open for connections that are not fresh.
 const MOST_OLD: usize = 2;
 
 /// The file that is written, and the old files that some connections still need.

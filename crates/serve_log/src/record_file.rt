@@ -6,10 +6,10 @@ use crate::faults::{Fault, LogFaults};
 use std::alloc::{AllocError, Global};
 use std::io::{self, ErrorKind, Write};
 
-/// How many bytes wait before a line is written without a `flush`.
+// How many bytes wait before a line is written without a `flush`.
 const MANY: usize = 65_536;
 
-/// How many writes are tried for the lines that wait.
+// How many writes are tried for the lines that wait.
 const MOST_WRITES: usize = 10_000;
 
 /// A file of a record. It has no gap: after a line that is lost it gets no other.

@@ -13,7 +13,7 @@ use attributes::Conn;
 use std::alloc::Global;
 use std::io;
 
-/// How long no new file is tried after one could not be begun, in milliseconds.
+// How long no new file is tried after one could not be begun, in milliseconds.
 const PAUSE: u64 = 60_000;
 
 /// Where a line is in a record.
@@ -205,7 +205,7 @@ impl<F: LogFiles + Drop> Recorder<F> {
         self.open.faults.fault_report(self.alloc, name, now_ms)
     }
 
-    /// Begins a new file.
+    // Begins a new file.
     fn begin(&mut self) -> Result<(), Fault> {
         let number = self.file().saturating_add(1);
         let file = begun(self.alloc, &self.files, &self.names, &self.updates, number)?;
@@ -213,13 +213,13 @@ impl<F: LogFiles + Drop> Recorder<F> {
         Ok(())
     }
 
-    /// Memory ran out for an event.
+    // Memory ran out for an event.
     fn lose(&mut self) {
         self.open.faults.note(Fault::Memory);
         self.open.faults.lose(1);
     }
 
-    /// The connection, which is fresh, opened in the file that is written, unless that file has its events.
+    // The connection, which is fresh, opened in the file that is written, unless that file has its events.
     fn moved(&mut self, connection: Connection) -> Connection {
         let current = self.file();
         if connection.file == current {
@@ -234,7 +234,7 @@ impl<F: LogFiles + Drop> Recorder<F> {
         connection
     }
 
-    /// Adds the lines of bytes that a connection delivers, and returns where the last one is.
+    // Adds the lines of bytes that a connection delivers, and returns where the last one is.
     fn added(&mut self, connection: &Connection, bytes: &[u8]) -> Option<RecordPosition> {
         let file = connection.file;
         let mut position = None;
@@ -246,7 +246,7 @@ impl<F: LogFiles + Drop> Recorder<F> {
         position
     }
 
-    /// Takes the connection out of a place.
+    // Takes the connection out of a place.
     fn take(&mut self, place: usize) -> Option<Connection> {
         let connection = self.connections.get_mut(place)?.take()?;
         if connection.needs_file() {
@@ -257,7 +257,7 @@ impl<F: LogFiles + Drop> Recorder<F> {
         Some(connection)
     }
 
-    /// Puts a connection into a place, if there is one.
+    // Puts a connection into a place, if there is one.
     fn put(&mut self, place: usize, connection: Connection) {
         if connection.needs_file() {
             if let Some(file) = self.open.file(connection.file) {
@@ -270,8 +270,8 @@ impl<F: LogFiles + Drop> Recorder<F> {
     }
 }
 
-/// A file with this number that has its beginning and the path of the record. After an error all files have the names
-/// that they had, unless one cannot be renamed.
+// A file with this number that has its beginning and the path of the record. After an error all files have the names
+// that they had, unless one cannot be renamed.
 fn begun<F: LogFiles>(
     alloc: Global,
     files: &F,

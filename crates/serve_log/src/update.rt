@@ -83,7 +83,7 @@ pub fn update_line(alloc: Global, time: u64, update: &Update<'_>) -> Result<Stri
     object.line()
 }
 
-/// Puts a response that is accepted.
+// Puts a response that is accepted.
 fn put_accepted(object: &mut Object, accepted: &Acknowledged<'_>) -> Result<(), AllocError> {
     object.put_text("update", "acknowledged")?;
     object.put_text("version", accepted.version)?;
@@ -92,7 +92,7 @@ fn put_accepted(object: &mut Object, accepted: &Acknowledged<'_>) -> Result<(), 
     object.put_number("milliseconds", accepted.milliseconds)
 }
 
-/// Puts a response that is refused.
+// Puts a response that is refused.
 fn put_refused(object: &mut Object, refused: &Refused<'_>) -> Result<(), AllocError> {
     object.put_text("update", "refused")?;
     object.put_text("version", refused.version)?;
@@ -102,7 +102,7 @@ fn put_refused(object: &mut Object, refused: &Refused<'_>) -> Result<(), AllocEr
     put_reason(object, refused)
 }
 
-/// Puts why a response is refused.
+// Puts why a response is refused.
 fn put_reason(object: &mut Object, refused: &Refused<'_>) -> Result<(), AllocError> {
     object.put_number("refused", refused.number as u64)?;
     object.put_text("name", refused.name)?;

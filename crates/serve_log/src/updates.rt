@@ -14,7 +14,7 @@ pub enum UpdateBytes<'a> {
     Refused,
 }
 
-/// A response that was accepted.
+// A response that was accepted.
 #[derive(Drop)]
 struct AcceptedResponse {
     // how many responses were accepted, with this one
@@ -77,7 +77,7 @@ impl Updates {
         }
     }
 
-    /// The bytes of the response that ends; none if memory ran out for them.
+    // The bytes of the response that ends; none if memory ran out for them.
     fn finish(&mut self) -> Option<Vec<u8>> {
         let bytes = mem::replace(&mut self.unfinished, Vec::new(self.alloc));
         let has_all = mem::replace(&mut self.has_all, true);

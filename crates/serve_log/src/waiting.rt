@@ -119,7 +119,7 @@ impl Waiting {
         }
     }
 
-    /// The first bytes of those that wait were written.
+    // The first bytes of those that wait were written.
     fn forget(&mut self, count: usize) -> Written
         requires { (0 < count) × (count ≤ length self.old) }
         ensures left { self.new ≡ drop count self.old }
@@ -150,7 +150,7 @@ impl Waiting {
     }
 }
 
-/// How a write ended that failed with this error.
+// How a write ended that failed with this error.
 fn ended_by(error: io::Error) -> Written
     ensures { result ≢ Written.All }
 {

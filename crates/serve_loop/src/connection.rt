@@ -21,16 +21,16 @@ pub(crate) enum Next {
     Over(CloseReason),
 }
 
-/// How far a connection has come.
+// How far a connection has come.
 #[derive(Clone, Copy, PartialEq, Eq, Debug)]
 enum Phase {
-    /// Requests are read.
+    // Requests are read.
     Open,
-    /// The last answers wait. No more is read.
+    // The last answers wait. No more is read.
     Ends,
-    /// The same, and the other end closed its direction.
+    // The same, and the other end closed its direction.
     Left,
-    /// All answers were sent. It is read until the other end closes, so that this gets the answers.
+    // All answers were sent. It is read until the other end closes, so that this gets the answers.
     Lingers,
 }
 

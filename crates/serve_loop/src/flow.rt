@@ -8,7 +8,7 @@ use crate::observer::Observer;
 use crate::service::Service;
 use crate::stream::Stream;
 
-/// How often a stream is written in one turn.
+// How often a stream is written in one turn.
 const WRITES: u8 = 16;
 
 /// The greatest number of bytes of one read.

@@ -28,7 +28,7 @@ pub(crate) struct Parties<F, N: Network<F>, S: Service<F>, O: Observer<F, S>> {
 }
 
 impl<F: Drop, N: Network<F>, S: Service<F>, O: Observer<F, S>> Parties<F, N, S, O> {
-    /// The service takes an event, and the observer sees it.
+    // The service takes an event, and the observer sees it.
     fn deliver(&mut self, event: &Event<'_, F>) -> Attempt
         requires { Fits (S.takes self.old.service) (event_view event.now) }
         ensures network { self.new.network ≡ self.old.network }
@@ -207,7 +207,7 @@ impl<F: Drop, N: Network<F>, S: Service<F>, O: Observer<F, S>> Parties<F, N, S, 
         self.network.finish(stream);
     }
 
-    /// Reports to the observer what failed, unless it may be tried again.
+    // Reports to the observer what failed, unless it may be tried again.
     fn failed(&mut self, failed: Failed, error: io::Error) -> Attempt
         ensures none { AddsNone result }
         ensures network { self.new.network ≡ self.old.network }

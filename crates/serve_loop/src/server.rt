@@ -16,9 +16,9 @@ use crate::upkeep::Upkeep;
 use std::alloc::{AllocError, Global};
 use std::io::{self, ErrorKind};
 
-/// How many connections are accepted in one turn.
+// How many connections are accepted in one turn.
 const ACCEPTS: u8 = 64;
-/// How long a wait takes at most, in milliseconds. After it times are looked at.
+// How long a wait takes at most, in milliseconds. After it times are looked at.
 const TICK: u64 = 100;
 
 /// The connections of a server, and its stream of updates.

@@ -11,7 +11,7 @@ use crate::service::{Outcome, Service};
 use crate::settings::{Settings, has_passed, longer, passed_since};
 use crate::stream::{CloseReason, Stream};
 
-/// How many pieces are read in one turn.
+// How many pieces are read in one turn.
 const PIECES: u8 = 64;
 
 /// The stream of updates, connected or not.

@@ -4,7 +4,7 @@ use http2::{End, Fault, Tunnel};
 use std::alloc::{AllocError, Global};
 use std::io::ErrorKind;
 
-/// The name of a status of gRPC; none for a number that gRPC does not have.
+// The name of a status of gRPC; none for a number that gRPC does not have.
 fn status_name(status: u32) -> &'static str {
     match status {
         0 => " OK",
@@ -28,7 +28,7 @@ fn status_name(status: u32) -> &'static str {
     }
 }
 
-/// The name of an error code of HTTP/2 (RFC 9113, section 7); none for a number that it does not have.
+// The name of an error code of HTTP/2 (RFC 9113, section 7); none for a number that it does not have.
 fn code_name(code: u32) -> &'static str {
     match code {
         0 => " NO_ERROR",
@@ -49,7 +49,7 @@ fn code_name(code: u32) -> &'static str {
     }
 }
 
-/// The greatest number of bytes of a control plane's message that is told.
+// The greatest number of bytes of a control plane's message that is told.
 const MOST_SHOWN: usize = 256;
 
 /// The kind of error that the end of a call is.

@@ -4,7 +4,7 @@ use hpack::Field;
 use serve_config::{CallMethod, ControlAddress, GrpcCall};
 use std::alloc::{AllocError, Global};
 
-/// The path of a method of xDS.
+// The path of a method of xDS.
 fn path_of(method: CallMethod) -> &'static str {
     match method {
         CallMethod::Ads => {
@@ -37,7 +37,7 @@ pub(crate) fn call_fields(
     Ok(fields)
 }
 
-/// The authority of the call: the one that is set, or the address. A Unix socket has none, so it is `localhost`.
+// The authority of the call: the one that is set, or the address. A Unix socket has none, so it is `localhost`.
 fn authority_of(
     alloc: Global,
     control: &ControlAddress,

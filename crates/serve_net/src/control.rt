@@ -41,7 +41,7 @@ pub(crate) struct GrpcPlane {
     shared: Shared,
 }
 
-/// Where a control plane is that speaks gRPC.
+// Where a control plane is that speaks gRPC.
 #[derive(Drop)]
 enum Way {
     Tcp(TcpPlane),

@@ -20,9 +20,9 @@ pub enum Ready {
     Admin(usize),
 }
 
-/// The first number of a connection of the admin port.
+// The first number of a connection of the admin port.
 const ADMIN: usize = 1 << 62;
-/// The number of the listeners. Those of the admin port, the update stream and standard input follow it.
+// The number of the listeners. Those of the admin port, the update stream and standard input follow it.
 const LISTENERS: usize = 1 << 63;
 
 /// The number of what may be ready; none for a place that has no number.

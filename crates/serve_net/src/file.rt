@@ -12,10 +12,10 @@ use std::sync::Arc;
 
 /// The greatest number of bytes of the file.
 pub const MOST_CONTENTS: usize = 1_048_576;
-/// How often the file is looked at, in milliseconds.
+// How often the file is looked at, in milliseconds.
 const LOOKS: u64 = 1_000;
 
-/// What a file had when it was read.
+// What a file had when it was read.
 #[derive(Drop)]
 enum Contents {
     Frame(Vec<u8>),
@@ -34,8 +34,8 @@ pub enum Look {
     Works,
 }
 
-/// What distinguishes one state of a file from another: which file it is, its length, and when its contents and its inode were
-/// last changed. Programs can set the first time back, but not the second.
+// What distinguishes one state of a file from another: which file it is, its length, and when its contents and its inode were
+// last changed. Programs can set the first time back, but not the second.
 #[derive(Clone, Copy, PartialEq, Eq)]
 struct Stamp {
     device: u64,

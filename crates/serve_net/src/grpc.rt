@@ -10,13 +10,13 @@ use std::cell::Cell;
 use std::io::{self, ErrorKind, Read, Write};
 use std::sync::Arc;
 
-/// How many bytes are read from the control plane at once.
+// How many bytes are read from the control plane at once.
 const CHUNK: usize = 16_384;
-/// How often the control plane is read at once while its windows allow no data.
+// How often the control plane is read at once while its windows allow no data.
 const READS: u8 = 64;
-/// How often it is written at once.
+// How often it is written at once.
 const WRITES: u8 = 64;
-/// How long the control plane may take to answer a PING, in milliseconds.
+// How long the control plane may take to answer a PING, in milliseconds.
 const PATIENCE: u64 = 20_000;
 
 /// The time in milliseconds since a fixed time, told by one and read by another.

@@ -6,7 +6,7 @@ use os::FromRawFd;
 use std::io::{self, ErrorKind};
 use std::net::{self, SocketAddr};
 
-/// The first descriptor that a supervisor passes on; those below it are the standard streams.
+// The first descriptor that a supervisor passes on; those below it are the standard streams.
 const FIRST: i32 = 3;
 
 /// A listening TCP socket that a supervisor opened.

@@ -4,7 +4,7 @@ use mio::unix::SourceFd;
 use mio::{Interest, Registry, Token};
 use std::io::{self, ErrorKind, Input, Read};
 
-/// The descriptor of standard input.
+// The descriptor of standard input.
 const STANDARD_INPUT: i32 = 0;
 
 /// How the end of standard input is waited for.

@@ -15,7 +15,7 @@ use std::fs::Files;
 use std::io::{self, ErrorKind};
 use std::net::{Net, SocketAddr};
 
-/// A listening socket.
+// A listening socket.
 #[derive(Drop)]
 enum Listener {
     Inherited(Inherited),

@@ -18,9 +18,9 @@ use std::net::{Net, SocketAddr};
 use std::rt::Clock;
 use std::time::{Duration, Instant};
 
-/// How many events one wait gives at most. Others come with the next one.
+// How many events one wait gives at most. Others come with the next one.
 const EVENTS: usize = 1_024;
-/// How often standard input is read, in milliseconds, if the system does not report it.
+// How often standard input is read, in milliseconds, if the system does not report it.
 const READS: u64 = 100;
 
 /// The sockets of a server, which work on the system's clock, files and network.

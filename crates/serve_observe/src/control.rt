@@ -8,7 +8,7 @@ ghost use Rattle.serve_observe.specs.Sampling.{one_more};
 use attributes::Conn;
 use serve_loop::{Event, Failed, Stream};
 
-/// How often one thing is reported at most, in milliseconds.
+// How often one thing is reported at most, in milliseconds.
 const SILENCE: u64 = 60_000;
 
 /// Whether something is to be reported that was last reported at this time, if it was: at most once a minute. Times are in

@@ -58,7 +58,7 @@ pub(crate) fn count_judgement(metrics: &mut Metrics, judged: &JudgedResponse<'_>
     let _ = metrics.admission(judgement.version.as_str(), judged.time, judged.micros);
 }
 
-/// Whether a response was accepted.
+// Whether a response was accepted.
 fn is_accepted(outcome: &ResponseOutcome) -> bool
     ensures { result ≡ is_accepted outcome.now }
 {
@@ -68,7 +68,7 @@ fn is_accepted(outcome: &ResponseOutcome) -> bool
     }
 }
 
-/// The verdict that is counted for an answer.
+// The verdict that is counted for an answer.
 fn verdict_of(case: Case) -> Verdict
     ensures { result ≡ counted_verdict case }
 {

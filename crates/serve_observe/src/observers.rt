@@ -30,7 +30,7 @@ use std::alloc::{AllocError, Global};
 use std::io;
 use std::rt::Clock;
 
-/// The steps of one in so many decisions are counted.
+// The steps of one in so many decisions are counted.
 const STEPS_SAMPLE: u64 = 64;
 
 /// What sees each event of a server: the counters and the status, the logs, and the record.

@@ -16,7 +16,7 @@ use std::io::Write;
 pub struct Log<W: Drop> {
     alloc: Global,
     writer: Option<W>,
-    /// Why a proxy's client ended its stream, if it did.
+    // Why a proxy's client ended its stream, if it did.
     ended: Option<Ended>,
     connections: u64,
 }
@@ -93,7 +93,7 @@ impl<W: Write + Drop> Log<W> {
         }
     }
 
-    /// Writes a line.
+    // Writes a line.
     fn put_line(&mut self, value: &Value) {
         let Some(writer) = &mut self.writer else {
             return;

@@ -69,7 +69,7 @@ pub(crate) fn judgement_value(
     }
 }
 
-/// The line for a response that is acknowledged.
+// The line for a response that is acknowledged.
 fn acknowledged_value(
     alloc: Global,
     judgement: &Judgement,
@@ -83,7 +83,7 @@ fn acknowledged_value(
     })
 }
 
-/// The line for a response that is refused for this reason.
+// The line for a response that is refused for this reason.
 fn refused_value(
     alloc: Global,
     judgement: &Judgement,
@@ -106,7 +106,7 @@ fn refused_value(
     })
 }
 
-/// The text, or `null`.
+// The text, or `null`.
 fn text_or_null(alloc: Global, text: Option<&str>) -> Result<Value, AllocError> {
     match text {
         Some(text) => Value::try_from_str(alloc, text),

@@ -18,7 +18,7 @@ use proxy_core::{Event, Proxy};
 use std::alloc::AllocError;
 use std::io::{Read, Write};
 
-/// The greatest number of bytes of one read.
+// The greatest number of bytes of one read.
 const CHUNK: usize = 16_384;
 
 /// Serves a connection with these facts to its end. It passes the core the opening, the bytes as they arrive, and the
@@ -39,7 +39,7 @@ pub fn serve_connection<R: Read, W: Write, L: Write + Drop>(
     log.log_connection(end);
 }
 
-/// Passes the core the opening of a connection and its bytes, and writes the answers. Returns who ended the connection.
+// Passes the core the opening of a connection and its bytes, and writes the answers. Returns who ended the connection.
 fn receive_connection<R: Read, W: Write>(
     proxy: &mut Proxy,
     conn: &Conn,
@@ -67,7 +67,7 @@ fn receive_connection<R: Read, W: Write>(
     EndedBy::Proxy
 }
 
-/// Passes the core an event of a connection, and writes the answer.
+// Passes the core an event of a connection, and writes the answer.
 fn answer<W: Write>(proxy: &mut Proxy, event: Event<'_>, writer: &mut W) -> EventResult
     ensures { Answers (proxy_view proxy.old) (proxy_view proxy.new) (W.contents writer.old) (W.contents writer.new)
         (event_view event.entry) result }
@@ -81,7 +81,7 @@ fn answer<W: Write>(proxy: &mut Proxy, event: Event<'_>, writer: &mut W) -> Even
     }
 }
 
-/// The number of bytes that a read gives; 0 at the end of the input, or if the read fails.
+// The number of bytes that a read gives; 0 at the end of the input, or if the read fails.
 fn count_of<R: Read>(reader: &mut R, room: &mut [u8]) -> usize
     ensures bound { result ≤ length room.new }
     ensures read { Consumes (R.remaining reader.old) (R.remaining reader.new) (take result room.new) }
@@ -92,18 +92,18 @@ fn count_of<R: Read>(reader: &mut R, room: &mut [u8]) -> usize
     }
 }
 
-/// The result of an event.
+// The result of an event.
 #[derive(Clone, Copy)]
 enum EventResult {
-    /// Nothing was answered.
+    // Nothing was answered.
     Waits,
-    /// Something was answered.
+    // Something was answered.
     Answered,
-    /// The stream or the connection is at its end.
+    // The stream or the connection is at its end.
     Ended,
 }
 
-/// The result of an event for which these bytes were written.
+// The result of an event for which these bytes were written.
 fn result_of(written: &[u8], closes: bool) -> EventResult
     ensures { IsResultOf written.now closes result }
 {
@@ -154,8 +154,8 @@ pub(crate) fn lose(proxy: &mut Proxy) -> bool
     false
 }
 
-/// Passes the core bytes of the update stream, up to the event with which a response is answered. Returns whether one
-/// was. No read gives more bytes than complete one message, so that its answer is written before the next is judged.
+// Passes the core bytes of the update stream, up to the event with which a response is answered. Returns whether one
+// was. No read gives more bytes than complete one message, so that its answer is written before the next is judged.
 fn receive<R: Read, W: Write, L: Write + Drop>(
     proxy: &mut Proxy,
     reader: &mut R,
@@ -182,7 +182,7 @@ fn receive<R: Read, W: Write, L: Write + Drop>(
     false
 }
 
-/// Passes the core the event that the update stream comes up, and writes the first request.
+// Passes the core the event that the update stream comes up, and writes the first request.
 fn bring_up<W: Write>(proxy: &mut Proxy, writer: &mut W) -> EventResult
     ensures { Updates (proxy_view proxy.old) (proxy_view proxy.new) (W.contents writer.old) (W.contents writer.new)
         ads_up result }
@@ -196,7 +196,7 @@ fn bring_up<W: Write>(proxy: &mut Proxy, writer: &mut W) -> EventResult
     }
 }
 
-/// Passes the core bytes of the update stream, logs how it judged the responses in them, and writes the answers.
+// Passes the core bytes of the update stream, logs how it judged the responses in them, and writes the answers.
 fn update<W: Write, L: Write + Drop>(
     proxy: &mut Proxy,
     bytes: &[u8],
@@ -234,7 +234,7 @@ pub fn serve_stream<R: Read, W: Write, L: Write + Drop>(
     control.lost();
 }
 
-/// Passes a control plane the bytes of its stream, and writes the answers.
+// Passes a control plane the bytes of its stream, and writes the answers.
 fn receive_requests<R: Read, W: Write, L: Write + Drop>(
     control: &mut Control,
     reader: &mut R,
@@ -257,7 +257,7 @@ fn receive_requests<R: Read, W: Write, L: Write + Drop>(
     }
 }
 
-/// Passes a control plane bytes of its stream, and writes the answer. Returns whether the stream goes on.
+// Passes a control plane bytes of its stream, and writes the answer. Returns whether the stream goes on.
 fn feed<W: Write, L: Write + Drop>(
     control: &mut Control,
     bytes: &[u8],

@@ -55,7 +55,7 @@ pub fn serve_rounds<S: Streams, L: Write + Drop>(
     }
 }
 
-/// Takes one response of the update stream, which comes up first if it is down. Returns the stream, unless it is lost.
+// Takes one response of the update stream, which comes up first if it is down. Returns the stream, unless it is lost.
 fn receive_updates<S: Streams, L: Write + Drop>(
     proxy: &mut Proxy,
     link: Option<(S::Reader, S::Writer)>,
@@ -72,7 +72,7 @@ fn receive_updates<S: Streams, L: Write + Drop>(
     }
 }
 
-/// Takes one response of an update stream that is up. Returns the stream, unless it is lost.
+// Takes one response of an update stream that is up. Returns the stream, unless it is lost.
 fn take_one<R: Read + Drop, W: Write + Drop, L: Write + Drop>(
     proxy: &mut Proxy,
     ends: (R, W),
@@ -91,8 +91,8 @@ fn take_one<R: Read + Drop, W: Write + Drop, L: Write + Drop>(
     }
 }
 
-/// Brings the update stream up, if it is connected, and takes one response of it. Returns the stream, unless it is
-/// lost.
+// Brings the update stream up, if it is connected, and takes one response of it. Returns the stream, unless it is
+// lost.
 fn come_up<R: Read + Drop, W: Write + Drop, L: Write + Drop>(
     proxy: &mut Proxy,
     connected: io::Result<(R, W)>,
@@ -123,7 +123,7 @@ fn come_up<R: Read + Drop, W: Write + Drop, L: Write + Drop>(
     }
 }
 
-/// Serves a connection with these facts to its end, if one was accepted.
+// Serves a connection with these facts to its end, if one was accepted.
 fn serve_one<R: Read + Drop, W: Write + Drop, L: Write + Drop>(
     proxy: &mut Proxy,
     conn: &Conn,

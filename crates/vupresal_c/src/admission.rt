@@ -53,7 +53,7 @@ pub extern "C" fn vupresal_filter_admit(
     }
 }
 
-/// Copies the words for a place, or an empty text if there are none.
+// Copies the words for a place, or an empty text if there are none.
 fn tell_place(named: Option<String>, room: &mut [u8])
     ensures { HoldsSomeText room.old room.new }
 {
@@ -63,17 +63,17 @@ fn tell_place(named: Option<String>, room: &mut [u8])
     }
 }
 
-/// Why a message is not admitted.
+// Why a message is not admitted.
 #[derive(Clone, Copy, Debug)]
 enum NotAdmitted {
-    /// The limits or the budget are out of range.
+    // The limits or the budget are out of range.
     OutOfRange,
-    /// A part of the message has this fault, or memory ran out.
+    // A part of the message has this fault, or memory ran out.
     Refused(Placed),
 }
 
 impl NotAdmitted {
-    /// The fault.
+    // The fault.
     fn fault(self) -> Fault
         ensures { result ≡ fault_in self }
     {
@@ -83,7 +83,7 @@ impl NotAdmitted {
         }
     }
 
-    /// The words for the part of the message that has the fault, if it can be named.
+    // The words for the part of the message that has the fault, if it can be named.
     fn place(self, alloc: Global, message: &[u8]) -> Option<String> {
         match self {
             NotAdmitted::OutOfRange => None,
@@ -126,7 +126,7 @@ pub(crate) fn budget_of(bounds: &Bounds, steps: u64) -> Budget
     }
 }
 
-/// The first owner of the filter of a message, in a box.
+// The first owner of the filter of a message, in a box.
 fn admitted(
     alloc: Global,
     message: &[u8],

@@ -43,7 +43,7 @@ pub extern "C" fn vupresal_filter_decide_head(
     }
 }
 
-/// The verdict on the request of a head.
+// The verdict on the request of a head.
 fn decide_head(
     alloc: Global,
     admitted: &Admitted,

@@ -47,7 +47,7 @@ pub extern "C" fn vupresal_filter_decide(
     }
 }
 
-/// The verdict on a request by its parts. Their lengths are tested before they are read.
+// The verdict on a request by its parts. Their lengths are tested before they are read.
 fn decide_parts(
     alloc: Global,
     admitted: &Admitted,
@@ -68,7 +68,7 @@ fn decide_parts(
     }
 }
 
-/// The verdict on a request whose parts are read.
+// The verdict on a request whose parts are read.
 fn judge_parts(
     alloc: Global,
     admitted: &Admitted,

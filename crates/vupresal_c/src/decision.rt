@@ -20,7 +20,7 @@ pub struct Decision {
 }
 
 impl Decision {
-    /// The decision that refuses, and names no policy.
+    // The decision that refuses, and names no policy.
     fn refused() -> Decision
         ensures { result ≡ refused }
     {
@@ -31,7 +31,7 @@ impl Decision {
         }
     }
 
-    /// The decision of a verdict.
+    // The decision of a verdict.
     fn of(verdict: Verdict) -> Decision
         ensures { result ≡ decision_of verdict }
     {

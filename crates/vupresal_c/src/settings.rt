@@ -51,7 +51,7 @@ impl<'a> Settings<'a> {
     }
 }
 
-/// Whether some resource's name is too long.
+// Whether some resource's name is too long.
 fn has_long_name(resources: &[Resource<'_>]) -> bool
     ensures { result ≡ has_long_name resources.now }
 {
@@ -82,7 +82,7 @@ pub(crate) fn core_of(alloc: Global, settings: &Settings<'_>) -> Result<Box<Core
     Ok(Box::new(alloc, core)?)
 }
 
-/// The configuration of these settings.
+// The configuration of these settings.
 fn config_of(alloc: Global, settings: &Settings<'_>) -> Result<Config, Fault>
     ensures found { IfOk result (IsConfig settings.now) }
     ensures fault { IfErr result (SettingsFail settings.now) }
@@ -99,7 +99,7 @@ fn config_of(alloc: Global, settings: &Settings<'_>) -> Result<Config, Fault>
     }
 }
 
-/// The filters of these resources, whose budgets have the visits of the bounds.
+// The filters of these resources, whose budgets have the visits of the bounds.
 fn filters_of(
     alloc: Global,
     resources: &[Resource<'_>],
@@ -116,7 +116,7 @@ fn filters_of(
     Ok(filters)
 }
 
-/// The filter of a resource.
+// The filter of a resource.
 fn filter_of(alloc: Global, resource: &Resource<'_>, bounds: &Bounds) -> Result<Filter, Fault>
     ensures found { IfOk result (λ filter. filter_view filter ≡ resource_given bounds.now resource.now) }
     ensures fault { IfErr result (TextFails (IsUtf8 resource.now.name.now)) }
@@ -128,7 +128,7 @@ fn filter_of(alloc: Global, resource: &Resource<'_>, bounds: &Bounds) -> Result<
     })
 }
 
-/// The text of these bytes.
+// The text of these bytes.
 fn text(alloc: Global, bytes: &[u8]) -> Result<String, Fault>
     ensures found { IfOk result (λ text. string_bytes text ≡ bytes.now) }
     ensures fault { IfErr result (TextFails (IsUtf8 bytes.now)) }

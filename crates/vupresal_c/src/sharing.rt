@@ -43,7 +43,7 @@ pub extern "C" fn vupresal_filter_share_distinct(
     }
 }
 
-/// Another owner of the same filter, in a box.
+// Another owner of the same filter, in a box.
 fn another_owner(alloc: Global, owner: &Arc<Admitted>) -> Result<Box<Arc<Admitted>>, Fault>
     ensures found { IfOk result (λ another. arc_value another.value ≡ arc_value owner.now) }
     ensures fault { IfErr result (λ e. e ≡ memory) }

@@ -47,7 +47,7 @@ impl Given {
     }
 }
 
-/// Gives the event to the core in the handle. After a status that is not 0, the handle is as before.
+// Gives the event to the core in the handle. After a status that is not 0, the handle is as before.
 fn step(alloc: Global, proxy: &mut Proxy, event: Event<'_>, given: &mut Given) -> i32
     ensures { StepsTo (core_in proxy.old) (event_view event.entry) result given.new (core_in proxy.new) }
 {
@@ -109,7 +109,7 @@ pub extern "C" fn vupresal_proxy_ads_lost(
     step(alloc, proxy, Event::AdsLost, given)
 }
 
-/// Opens the connection of this number in the core.
+// Opens the connection of this number in the core.
 fn open_in(
     alloc: Global,
     core: &mut Core,

@@ -12,11 +12,11 @@ use c_inputs::{Bounds, FactsInput, RequestInput};
 use http_front::Line;
 use std::mem::size_of;
 
-/// The version 0.1.0: a million for each first number, a thousand for each second one.
+// The version 0.1.0: a million for each first number, a thousand for each second one.
 const NUMBER: u64 = 1_000;
 
-/// Whether each contract of the library is proved. A proof of this file is a part of the library's proof, which
-/// requires `true`. A build without a proof is compiled from a copy that says `false`.
+// Whether each contract of the library is proved. A proof of this file is a part of the library's proof, which
+// requires `true`. A build without a proof is compiled from a copy that says `false`.
 const IS_PROVED: bool = true;
 
 /// The library's version, and the size of each struct in bytes, by which a caller notices another header.

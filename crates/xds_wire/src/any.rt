@@ -28,10 +28,10 @@ pub struct Any<'a> {
     pub value: &'a [u8],
 }
 
-/// The number of `type_url` in an Any.
+// The number of `type_url` in an Any.
 const TYPE_URL: u32 = 1;
 
-/// The number of `value` in an Any.
+// The number of `value` in an Any.
 const VALUE: u32 = 2;
 
 /// The message that the payloads merge to.

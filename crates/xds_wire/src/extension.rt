@@ -21,10 +21,10 @@ pub struct TypedExtensionConfig<'a> {
     pub typed_config: Option<Any<'a>>,
 }
 
-/// The number of `name` in a TypedExtensionConfig.
+// The number of `name` in a TypedExtensionConfig.
 const NAME: u32 = 1;
 
-/// The number of `typed_config` in a TypedExtensionConfig.
+// The number of `typed_config` in a TypedExtensionConfig.
 const TYPED_CONFIG: u32 = 2;
 
 /// Reads a TypedExtensionConfig and skips unknown fields. `BadWire` if the bytes, or those of `typed_config`, are not a

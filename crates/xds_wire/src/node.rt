@@ -24,10 +24,10 @@ pub struct Node<'a> {
     pub cluster: &'a str,
 }
 
-/// The number of `id` in a Node.
+// The number of `id` in a Node.
 const ID: u32 = 1;
 
-/// The number of `cluster` in a Node.
+// The number of `cluster` in a Node.
 const CLUSTER: u32 = 2;
 
 // The message that the payloads merge to.

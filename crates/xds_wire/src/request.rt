@@ -31,22 +31,22 @@ pub struct DiscoveryRequest<'a> {
     pub error_detail: Option<Status<'a>>,
 }
 
-/// The number of `version_info` in a DiscoveryRequest.
+// The number of `version_info` in a DiscoveryRequest.
 const VERSION_INFO: u32 = 1;
 
-/// The number of `node` in a DiscoveryRequest.
+// The number of `node` in a DiscoveryRequest.
 const NODE: u32 = 2;
 
-/// The number of `resource_names` in a DiscoveryRequest.
+// The number of `resource_names` in a DiscoveryRequest.
 const RESOURCE_NAMES: u32 = 3;
 
-/// The number of `type_url` in a DiscoveryRequest.
+// The number of `type_url` in a DiscoveryRequest.
 const TYPE_URL: u32 = 4;
 
-/// The number of `response_nonce` in a DiscoveryRequest.
+// The number of `response_nonce` in a DiscoveryRequest.
 const RESPONSE_NONCE: u32 = 5;
 
-/// The number of `error_detail` in a DiscoveryRequest.
+// The number of `error_detail` in a DiscoveryRequest.
 const ERROR_DETAIL: u32 = 6;
 
 /// Reads a DiscoveryRequest and skips unknown fields. `BadWire` if the bytes, or those of a message in them, are not a

@@ -25,16 +25,16 @@ pub struct DiscoveryResponse<'a> {
     pub nonce: &'a str,
 }
 
-/// The number of `version_info` in a DiscoveryResponse.
+// The number of `version_info` in a DiscoveryResponse.
 const VERSION_INFO: u32 = 1;
 
-/// The number of `resources` in a DiscoveryResponse.
+// The number of `resources` in a DiscoveryResponse.
 const RESOURCES: u32 = 2;
 
-/// The number of `type_url` in a DiscoveryResponse.
+// The number of `type_url` in a DiscoveryResponse.
 const TYPE_URL: u32 = 4;
 
-/// The number of `nonce` in a DiscoveryResponse.
+// The number of `nonce` in a DiscoveryResponse.
 const NONCE: u32 = 5;
 
 /// Reads a DiscoveryResponse and skips unknown fields. `BadWire` if the bytes, or those of a resource, are not a list

@@ -34,7 +34,7 @@ pub(crate) struct Data {
 }
 
 impl Data {
-    /// A head that names this length, and a part of its message.
+    // A head that names this length, and a part of its message.
     fn begin(alloc: Global, length: usize, part: &[u8]) -> Result<Data, AllocError>
         ensures length { IfOk result (λ kept. kept.length ≡ length) }
         ensures bytes { IfOk result (λ kept. kept.bytes.items ≡ part.now) }
@@ -44,7 +44,7 @@ impl Data {
         Ok(Data { length, bytes })
     }
 
-    /// Appends bytes, at most as many as the message lacks.
+    // Appends bytes, at most as many as the message lacks.
     fn append(&mut self, bytes: &[u8]) -> Result<(), AllocError>
         requires { vec_len self.old.bytes + length bytes.now ≤ self.old.length }
         ensures length { self.new.length ≡ self.old.length }
@@ -58,7 +58,7 @@ impl Data {
         self.bytes.extend_from_slice(bytes)
     }
 
-    /// A copy of the data.
+    // A copy of the data.
     fn copy(&self) -> Result<Data, AllocError>
         ensures length { IfOk result (λ copy. copy.length ≡ self.now.length) }
         ensures bytes { IfOk result (λ copy. copy.bytes.items ≡ self.now.bytes.items) }
@@ -67,12 +67,12 @@ impl Data {
     }
 }
 
-/// The memory for an incomplete message is less than this many times the bytes that arrived.
+// The memory for an incomplete message is less than this many times the bytes that arrived.
 const MOST_TIMES: usize = 8;
 
-/// The capacity for a message of this length of which so many bytes have arrived. It is the whole length once more than
-/// an eighth has arrived, so that these bytes are not copied again. Before, it is the number of bytes that have
-/// arrived.
+// The capacity for a message of this length of which so many bytes have arrived. It is the whole length once more than
+// an eighth has arrived, so that these bytes are not copied again. Before, it is the number of bytes that have
+// arrived.
 fn room(length: usize, count: usize) -> usize
     ensures whole { length < 8 * count → result ≡ length }
     ensures part { 8 * count ≤ length → result ≡ count }

@@ -25,10 +25,10 @@ pub struct Status<'a> {
     pub message: &'a str,
 }
 
-/// The number of `code` in a Status.
+// The number of `code` in a Status.
 const CODE: u32 = 1;
 
-/// The number of `message` in a Status.
+// The number of `message` in a Status.
 const MESSAGE: u32 = 2;
 
 // The message that the payloads merge to.

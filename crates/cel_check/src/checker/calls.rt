@@ -39,7 +39,7 @@ pub(super) fn call_expr<'a>(
     })
 }
 
-/// The overload of a call on these operands, and the type of its result.
+// The overload of a call on these operands, and the type of its result.
 fn call_type(
     alloc: Global,
     function: &ArcStr,
@@ -56,8 +56,8 @@ fn call_type(
     Ok((found.overload, cel_type))
 }
 
-/// The overload of a call on these operands. One to three operands need no list of their types, and
-/// no overload takes more.
+// The overload of a call on these operands. One to three operands need no list of their types, and
+// no overload takes more.
 fn found_overload<'t>(
     alloc: Global,
     name: &str,
@@ -83,7 +83,7 @@ fn found_overload<'t>(
     }
 }
 
-/// The types of expressions.
+// The types of expressions.
 fn types_of<'t>(alloc: Global, exprs: &'t [TypedExpr<'_>]) -> Result<Vec<&'t CelType>, AllocError>
     ensures { IfOk result (λ v. types_of v.items ≡ kinds (exprs_view exprs.now)) }
 {
@@ -94,7 +94,7 @@ fn types_of<'t>(alloc: Global, exprs: &'t [TypedExpr<'_>]) -> Result<Vec<&'t Cel
     Ok(types)
 }
 
-/// The overload of a call. Refuses a name that no function has, and operands that no overload takes.
+// The overload of a call. Refuses a name that no function has, and operands that no overload takes.
 fn overload_of<'t>(
     name: &str,
     has_target: bool,
@@ -111,7 +111,7 @@ fn overload_of<'t>(
     }
 }
 
-/// The type of a result.
+// The type of a result.
 fn result_type(kind: ResultType<'_>) -> Result<CelType, AllocError>
     ensures { IfOk result (λ t. type_view t ≡ result_view kind.entry) }
 {

@@ -74,7 +74,7 @@ fn agrees(reference: &Reference, name: &str) -> bool
     }
 }
 
-/// Whether the kept name is this one.
+// Whether the kept name is this one.
 fn is_name(kept: &Option<ArcStr>, name: &str) -> bool
     ensures { result ≡ bytes_eq (name_view kept.now) (points_of name.now) }
 {

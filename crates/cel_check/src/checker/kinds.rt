@@ -52,7 +52,7 @@ pub(super) fn type_of_key(key: KeyType) -> CelType
     }
 }
 
-/// Refuses a type other than bool.
+// Refuses a type other than bool.
 fn require_bool(found: &CelType) -> Result<(), Refusal>
     ensures found { OnOk result (type_view found.now ≡ bool_type) }
     ensures fault { IfErr result (λ e. (type_view found.now ≢ bool_type) × (e ≡ NoOverload)) }
@@ -63,7 +63,7 @@ fn require_bool(found: &CelType) -> Result<(), Refusal>
     Err(Refusal::NoOverload)
 }
 
-/// Refuses a type other than the wanted one.
+// Refuses a type other than the wanted one.
 fn require_same(found: &CelType, wanted: &CelType) -> Result<(), Refusal>
     ensures found { OnOk result (type_view found.now ≡ type_view wanted.now) }
     ensures fault { IfErr result (λ e. (type_view found.now ≢ type_view wanted.now) × (e ≡ NoOverload)) }
@@ -124,7 +124,7 @@ pub(super) fn turn_types(variables: Variables, range: &CelType) -> Result<TurnTy
     }
 }
 
-/// The type of an item of a list, or of a key of a map.
+// The type of an item of a list, or of a key of a map.
 fn one_type(range: &CelType) -> Result<TurnTypes, Refusal>
     ensures found { IfOk result (λ each. IsOver variables.One (type_view range.now) (each_view each)) }
     ensures fault { IfErr result (MemoryOr (NoElements variables.One (type_view range.now))) }
@@ -142,7 +142,7 @@ fn one_type(range: &CelType) -> Result<TurnTypes, Refusal>
     }
 }
 
-/// The types of an index and an item of a list, or of a key and a value of a map.
+// The types of an index and an item of a list, or of a key and a value of a map.
 fn two_types(range: &CelType) -> Result<TurnTypes, Refusal>
     ensures found { IfOk result (λ each. IsOver variables.Two (type_view range.now) (each_view each)) }
     ensures fault { IfErr result (MemoryOr (NoElements variables.Two (type_view range.now))) }

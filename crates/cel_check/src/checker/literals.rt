@@ -40,7 +40,7 @@ pub(super) fn list_type(
     }
 }
 
-/// The type of an empty list: its entry's, which has to be a list.
+// The type of an empty list: its entry's, which has to be a list.
 fn empty_list(entry: Option<&TypeEntry>) -> Result<&CelType, Refusal>
     ensures found { IfOk result (λ t. (option_map (λ e. type_entry_view e.now) entry.entry
         ≡ Some (of_type (type_view t.now))) × IsList (type_view t.now)) }
@@ -73,7 +73,7 @@ pub(super) fn map_type(
     }
 }
 
-/// The type of an empty map: its entry's, which has to be a map.
+// The type of an empty map: its entry's, which has to be a map.
 fn empty_map(entry: Option<&TypeEntry>) -> Result<&CelType, Refusal>
     ensures found { IfOk result (λ t. (option_map (λ e. type_entry_view e.now) entry.entry
         ≡ Some (of_type (type_view t.now))) × IsMap (type_view t.now)) }

@@ -33,14 +33,14 @@ pub(super) fn require_few_locals(tree: &Tree) -> Result<(), Fault>
     }
 }
 
-/// The number itself.
+// The number itself.
 fn number_of(number: &i64) -> i64
     ensures { result ≡ number.now }
 {
     *number
 }
 
-/// The id of the first node with too many locals in scope, if there is one. The tree has `around` of them in scope.
+// The id of the first node with too many locals in scope, if there is one. The tree has `around` of them in scope.
 #[cycle(locals)]
 fn crowded_node(tree: &Tree, around: u8) -> Option<i64>
     ensures { result ≡ first_crowded around (tree_view tree.now) }
@@ -106,7 +106,7 @@ fn crowded_in_entries(entries: &[TreeEntry], around: u8) -> Option<i64>
     None
 }
 
-/// The same of a comprehension: its condition and step have all its locals in scope, its result one.
+// The same of a comprehension: its condition and step have all its locals in scope, its result one.
 #[cycle(locals)]
 fn crowded_in_loop(parts: &Comprehension, around: u8) -> Option<i64>
     requires { around ≤ most_locals }
@@ -121,7 +121,7 @@ fn crowded_in_loop(parts: &Comprehension, around: u8) -> Option<i64>
     range.or(init.or(condition.or(step.or(result))))
 }
 
-/// The number of a comprehension's locals: its variables and its accumulator.
+// The number of a comprehension's locals: its variables and its accumulator.
 fn own_locals(parts: &Comprehension) -> u8
     ensures own { result ≡ variable_count (variables_of (text_view parts.now.iter_var2)) + 1 }
     ensures few { result ≤ 3 }

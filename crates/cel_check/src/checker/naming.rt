@@ -38,7 +38,7 @@ pub(super) fn at_node<T>(read: Result<T, Fault>, id: i64) -> Result<T, Fault>
     }
 }
 
-/// The fault at the node with this id, if no node is named yet.
+// The fault at the node with this id, if no node is named yet.
 #[cold]
 #[inline(never)]
 fn named(fault: Fault, id: i64) -> Fault
@@ -52,7 +52,7 @@ fn named(fault: Fault, id: i64) -> Fault
     fault
 }
 
-/// Whether a place names nothing yet.
+// Whether a place names nothing yet.
 fn is_whole(place: &Place) -> bool
     ensures { MatchBool result (path_of place.now ≡ path_at 0) (path_of place.now ≢ path_at 0) }
 {

@@ -49,7 +49,7 @@ pub(super) fn check_tree<'a>(
     at_node(check_agreeing(alloc, checked, scope, tree), id_of(tree))
 }
 
-/// Checks an expression, as `check_tree` does. A fault of its own node has no place.
+// Checks an expression, as `check_tree` does. A fault of its own node has no place.
 #[cycle(check)]
 #[inline(always)]
 fn check_agreeing<'a>(
@@ -69,7 +69,7 @@ fn check_agreeing<'a>(
     Ok(kept(typed, agrees)?)
 }
 
-/// Checks an expression, without the type entry of its own node.
+// Checks an expression, without the type entry of its own node.
 #[cycle(check)]
 fn check_node<'a>(
     alloc: Global,
@@ -117,14 +117,14 @@ fn check_node<'a>(
     }
 }
 
-/// What a Select takes of its operand: a field, or whether it is there.
+// What a Select takes of its operand: a field, or whether it is there.
 #[derive(Clone, Copy)]
 struct Selected<'a> {
     field: &'a ArcStr,
     test_only: bool,
 }
 
-/// Checks a Select: of a root's attribute, or of its operand, a map from texts.
+// Checks a Select: of a root's attribute, or of its operand, a map from texts.
 #[cycle(check)]
 fn check_select<'a>(
     alloc: Global,
@@ -155,7 +155,7 @@ fn check_select<'a>(
     Ok(field_expr(alloc, map, selected.field, selected.test_only)?)
 }
 
-/// Checks the target of a call, if there is one.
+// Checks the target of a call, if there is one.
 #[cycle(check)]
 fn check_target<'a>(
     alloc: Global,
@@ -179,7 +179,7 @@ fn check_target<'a>(
     }
 }
 
-/// Checks expressions in order, and appends their elaborations.
+// Checks expressions in order, and appends their elaborations.
 #[cycle(check)]
 fn check_each<'a>(
     alloc: Global,
@@ -201,7 +201,7 @@ fn check_each<'a>(
     Ok(typed)
 }
 
-/// Checks a list literal: its elements, and then whether they have one type.
+// Checks a list literal: its elements, and then whether they have one type.
 #[cycle(check)]
 fn check_list<'a>(
     alloc: Global,
@@ -221,8 +221,8 @@ fn check_list<'a>(
     Ok(TypedExpr::List { cel_type, elements })
 }
 
-/// Checks a map literal: its keys and values, and then whether all keys have one type, and all
-/// values one.
+// Checks a map literal: its keys and values, and then whether all keys have one type, and all
+// values one.
 #[cycle(check)]
 fn check_map<'a>(
     alloc: Global,
@@ -242,7 +242,7 @@ fn check_map<'a>(
     Ok(TypedExpr::Map { cel_type, pairs })
 }
 
-/// Checks keys and values in turn.
+// Checks keys and values in turn.
 #[cycle(check)]
 fn check_pairs<'a>(
     alloc: Global,
@@ -265,7 +265,7 @@ fn check_pairs<'a>(
     Ok(pairs)
 }
 
-/// Checks a comprehension: its names, its range, its initial value, its turns, and then its result.
+// Checks a comprehension: its names, its range, its initial value, its turns, and then its result.
 #[cycle(check)]
 fn check_loop<'a>(
     alloc: Global,
@@ -287,7 +287,7 @@ fn check_loop<'a>(
     Ok(loop_expr(alloc, variables_of(&parts.iter_var2), exprs)?)
 }
 
-/// Checks the range and the initial value of a comprehension.
+// Checks the range and the initial value of a comprehension.
 #[cycle(check)]
 fn check_ends<'a>(
     alloc: Global,
@@ -306,7 +306,7 @@ fn check_ends<'a>(
     both(range, check_tree(alloc, checked, scope, &parts.accu_init))
 }
 
-/// Checks the condition, the step and the result of a comprehension with this range and this initial value.
+// Checks the condition, the step and the result of a comprehension with this range and this initial value.
 #[cycle(check)]
 fn check_body<'a>(
     alloc: Global,
@@ -333,7 +333,7 @@ fn check_body<'a>(
     both(two, check_tree(alloc, checked, &inner, &parts.result))
 }
 
-/// Checks the condition and the step of a comprehension, whose accumulator has this type.
+// Checks the condition and the step of a comprehension, whose accumulator has this type.
 #[cycle(check)]
 fn check_turn<'a>(
     alloc: Global,
@@ -357,7 +357,7 @@ fn check_turn<'a>(
     )
 }
 
-/// Checks the step of a comprehension, whose accumulator has this type.
+// Checks the step of a comprehension, whose accumulator has this type.
 #[cycle(check)]
 fn check_step<'a>(
     alloc: Global,

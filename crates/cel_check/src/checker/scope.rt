@@ -84,7 +84,7 @@ impl<'s> Scope<'s> {
         }
     }
 
-    /// The number of locals in scope.
+    // The number of locals in scope.
     fn count(&self) -> u8
         requires { length (scope_view self.now) ≤ most_locals }
         ensures { result ≡ length (scope_view self.now) }

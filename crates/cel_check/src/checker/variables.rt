@@ -98,8 +98,8 @@ pub(super) fn field_expr<'a>(
     })
 }
 
-/// The type of a map's value at a name, or of the test whether the map has the name. Refuses a type other
-/// than a map from texts.
+// The type of a map's value at a name, or of the test whether the map has the name. Refuses a type other
+// than a map from texts.
 fn field_type(found: &CelType, test_only: bool) -> Result<CelType, Refusal>
     ensures found { IfOk result (λ own. (t : ValueType) × (type_view found.now ≡ map_type keys.Text t)
         × (type_view own ≡ field_type test_only t)) }
