@@ -42,8 +42,8 @@ is_long_line most f = nat_lt most (length f.0) || nat_lt head_room (length f.1)
 abbrev pub has_long_line : ℕ → List Entry → Bool
 has_long_line most fields = list_any (is_long_line most) fields
 
--- whatever the bytes of the parts are, the request is outside the limits: the method, the target, a name or a value is
--- too long, or there are too many fields
+-- whatever the bytes of the parts are, the request is outside the limits. The method, the target, a name or a value is too
+-- long, or there are too many fields
 abbrev pub are_too_long : LimitsValue → PartsValue → Bool
 are_too_long limits p = nat_lt limits.method (length p.method) || nat_lt limits.target (length p.target)
     || nat_lt limits.fields (length p.fields) || has_long_line limits.name p.fields

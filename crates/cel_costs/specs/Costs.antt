@@ -63,7 +63,7 @@ abbrev pub key_size : Size → Size
 key_size (Table n k v) = k
 key_size _ = Flat
 
--- the size of the answer of an index or a Select, and of the second of two variables: of an item, or of a
+-- the size of the answer of an index or a Select, and of the second of two variables. It is that of an item or of a
 -- map's value
 abbrev pub value_size : Size → Size
 value_size (Many n e) = e

@@ -1,5 +1,5 @@
--- Evaluation that tells of an error where it begins. What an error is: CEL language definition, "Runtime Errors". Which
--- place is told is this project's own choice.
+-- Evaluation that reports where an error begins. What an error is: CEL language definition, "Runtime Errors". Which place
+-- it reports is this project's own choice.
 use Rattle.std.specs.Prelude.{ℕ, ◌+◌, true, false, List, [], ◌∷◌, map, Option, Some, None, option_map}
 use Rattle.std.specs.Option.{option_and_then}
 use Rattle.attributes.specs.Request.{RequestValue}
@@ -13,8 +13,8 @@ use Rattle.cel_types.specs.Meaning.{Locals, call_answer, name_answer, select_ans
 use Rattle.cel_types.specs.Names.{Scope, local, root_of, turn_scope, variables_of}
 use Rattle.cel_types.specs.declared.typed.Variables.{Variables}
 
--- where an error begins: a part of the expression; the numbers of the turns around it, the innermost first; and the answers
--- of the locals there
+-- where an error begins: a part of the expression, with the numbers of the turns around it and the answers of the locals
+-- there. The innermost turn is first
 pub record CelPlace : Type 0 where
   pub part : CelTree
   pub turns : List ℕ
@@ -121,9 +121,9 @@ placed_before (Some a) None = None
 placed_before (Some a) (Some others) = Some (a ∷ others)
 
 abbrev mutual
-  -- the answer of an expression, and where it begins if it is an error: in the leftmost operand that is an error, as long
-  -- as there is one. Errors that `&&` or `||` absorbs, or in a branch that is not taken, do not count. A comprehension
-  -- passes on an error of its range, of a condition, or of its result
+  -- the answer of an expression, and where it begins if it is an error. An error begins in the leftmost operand that is an
+  -- error, as long as there is one. Errors that `&&` or `||` absorbs, or in a branch that is not taken, do not count. A
+  -- comprehension passes on an error of its range, of a condition, or of its result
   pub placed : RequestValue → CelAround → CelTree → Option CelPlaced
   placed r c (constant id v) = Some (value v, None)
   placed r c (ident id name) = settled (ident id name) c

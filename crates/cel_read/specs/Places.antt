@@ -34,7 +34,7 @@ AreWholeOf (part ∷ parts) fs =
 abbrev pub NamesExpr : Parts → Path → Type 0
 NamesExpr parts path = (fs : List Wire) × AreWholeOf parts fs × NamesNode (int64_at node_field.id fs) path
 
--- a fault of an expression itself, which may have `depth` levels, and `left` nodes: it is one level too deep, one node
+-- a fault of an expression itself, which may have `depth` levels and `left` nodes. It is one level too deep or one node
 -- too many, or its own message has a fault
 pub data OwnFault (depth left : ℕ) (parts : Parts) (e : Refusal) : Type 0 where
   too_deep : depth ≡ 0 → e ≡ TooLarge → OwnFault depth left parts e

@@ -50,7 +50,7 @@ pub fn typing_disjoint()
     ensures { (c : CelChecked) (t : ValueType) (e : Refusal) → IsTyped c t → CheckFault c e → ⊥ }
 {}
 
-/// A checked expression is typed exactly if it has a type by the rules, its entries agree, and no node has too many locals
+/// A checked expression is typed exactly if the rules give it a type, its entries agree, and no node has too many locals
 /// in scope.
 pub fn typed_is_agreeing()
     ensures { (c : CelChecked) (t : ValueType) → IsTyped c t ↔ IsAgreeing c t }

@@ -175,7 +175,7 @@ replay_app = with_rule (with_rule (new_app (codes "replay")) config_rule) connec
 abbrev pub serve_app : App
 serve_app = with_rule (with_rule (new_app (codes "serve")) config_rule) check_rule
 
--- `control --listen ADDR --name F... [--log FILE] [--grpc] FILE...`, or with `--response FILE...` in place of names and files
+-- `control --listen ADDR --name F... [--log FILE] [--grpc] FILE...`, or with `--response FILE...` instead of names and files
 abbrev pub control_app : App
 control_app = with_rule (with_rule (with_rule (with_rule (with_rule (with_rule (new_app (codes "control")) listen_rule)
     name_rule) files_rule) response_rule) log_rule) grpc_rule
@@ -309,9 +309,8 @@ AreTaken words = fault_of rbacd_app words ≡ []
 abbrev pub IsJobOf : List Text → Job → Type 0
 IsJobOf words job = AreTaken words × IsJobOfNamed (subcommand_of rbacd_app words) job
 
--- the words are mistaken: the first step of a parse that fails does so in this way. Or the parse succeeds, and names no
--- job, since the budget, the rounds or the connection are not allowed, or files
--- and names do not go together
+-- the words are mistaken: the first step of a parse that fails does so in this way. Or the parse succeeds, but
+-- names no job. Then the budget, the rounds or the connection are not allowed, or files and names do not go together
 abbrev pub AreMistaken : List Text → ErrorKind → Type 0
 AreMistaken words kind = IsAmong kind (fault_of rbacd_app words)
     ⊎ ((kind ≡ ValueValidation) × AreTaken words × NamesNoJob (subcommand_of rbacd_app words))

@@ -39,7 +39,7 @@ pub enum Job {
     },
     /// `replay --config FILE [--connection K]`: runs the core of the proxy on the events on standard input.
     Replay(ReplayWords),
-    /// `control --listen ADDR --name F... [--log FILE] [--grpc] FILE...`, or with `--response FILE...` in place of names
+    /// `control --listen ADDR --name F... [--log FILE] [--grpc] FILE...`, or with `--response FILE...` instead of names
     /// and files: serves filters as a control plane.
     Control(ControlWords),
     /// `proxy --config FILE --control ADDR --listen ADDR --rounds N [--facts FILE] [--log FILE]`: judges the requests

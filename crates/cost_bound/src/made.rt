@@ -140,8 +140,8 @@ pub(crate) fn list_size(
     many(alloc, count, items)
 }
 
-/// What was found of a map literal's keys and values, which are in turn, from one of them on: the sizes of those that are
-/// keys joined, and of the others, and the sums of their masses.
+/// What was found of a map literal's keys and values, which are in turn, from one of them on. It has the joined sizes of
+/// those that are keys, the joined sizes of the others, and the sums of their masses.
 #[derive(Drop)]
 pub(crate) struct Entries {
     keys: ValueSize,

@@ -17,7 +17,7 @@ name_of t (entry i) = entry_at t i >>= λ f. Ok f.name
 name_of t (text bytes) = Ok bytes
 
 -- What a representation does: the field that it gives, if any, and the table after it. A size update
--- stands in front of all fields (4.2), and asks for no more than `most` octets (6.3).
+-- comes before all fields (4.2), and asks for no more than `most` octets (6.3).
 unfoldable pub step : ℕ → Bool → Table → Form → Result (Option Line × Table) Fault
 step most began t (indexed i) = entry_at t i >>= λ f. Ok (Some f, t)
 step most began t (literal add name value) =
@@ -34,7 +34,7 @@ step_at most began t bytes =
     step most began t r.0 >>= λ s.
     Ok (s.0, s.1, r.1)
 
--- the fields that representations give one after the other, and the table after them
+-- the fields that representations give in order, and the table after them
 unfoldable pub run : ℕ → Bool → Table → List Form → Result (List Line × Table) Fault
 run most began t [] = Ok ([], t)
 run most began t (r ∷ rs) =
@@ -42,7 +42,7 @@ run most began t (r ∷ rs) =
     run most (is_some s.0) s.1 rs >>= λ more.
     Ok (option_to_list s.0 ++ more.0, more.1)
 
--- the octets spell these representations, one after the other
+-- the octets spell these representations, in order
 abbrev pub Spells : List ℕ → List Form → Type 0
 Spells bytes [] = bytes ≡ []
 Spells bytes (r ∷ rs) = (rest : List ℕ) × Starts IsForm bytes r rest × Spells rest rs
@@ -53,7 +53,7 @@ pub record Means (most : ℕ) (began : Bool) (before : Table) (block : List ℕ)
   pub spells : Spells block forms
   pub runs : run most began before forms ≡ Ok (fields, after)
 
--- a field list that is larger than the limit is not handed out (RFC 9113, 10.5.1)
+-- a field list that is larger than the limit is not passed on (RFC 9113, 10.5.1)
 abbrev pub within : ℕ → List Line → Option (List Line)
 within limit fields = if nat_lt limit (lines_size fields) then None else Some fields
 

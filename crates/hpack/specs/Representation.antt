@@ -32,7 +32,7 @@ form_of (representations.Indexed i) = indexed i
 form_of (representations.Literal add name value) = literal add (name_form name) value.items
 form_of (representations.Resize n) = resize n
 
--- an index whose prefix holds at most `most`; behind the index 0 a string
+-- an index whose prefix holds at most `most`; after the index 0 a string
 unfoldable pub name_at : ℕ → List ℕ → Result (NameForm × List ℕ) Fault
 name_at most bytes =
     integer_at most bytes >>= λ i.

@@ -23,7 +23,7 @@ with_entry f t = record { entries = fitting t.limit (f ∷ t.entries); limit = t
 abbrev pub with_limit : ℕ → Table → Table
 with_limit limit t = record { entries = fitting limit t.entries; limit = limit }
 
--- an entry that is there; else the index is at fault (2.3.3)
+-- the entry, if there is one; else the index is at fault (2.3.3)
 abbrev pub found_or : Option Line → Result Line Fault
 found_or (Some f) = Ok f
 found_or None = Err BadIndex
@@ -32,7 +32,7 @@ found_or None = Err BadIndex
 unfoldable pub entry_at : Table → ℕ → Result Line Fault
 entry_at t i = if i == 0 then Err BadIndex else found_or (slice_get (static_table ++ t.entries) (i - 1))
 
--- The front is of the entries, fits, and would not with the entry behind it.
+-- The front begins the entries, and it fits. With the entry after it, it would not fit.
 pub record LongestFront (room : ℕ) (all front : List Line) : Type 0 where
   pub rest : List Line
   pub whole : all ≡ front ++ rest

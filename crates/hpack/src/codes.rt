@@ -21,8 +21,8 @@ pub(crate) static SHORT_CODES: [u16; 256] = [
     1911, 1911, 1912, 1912, 1913, 1913, 1914, 1914, 2086, 2090, 2092, 2107, 2136, 2138, 0, 0,
 ];
 
-/// For each count of bits below eight, what they are as a text's end: a symbol and padding, 256 for
-/// padding alone, or 512 for neither. The place is 128 times the count and the low seven bits.
+/// What fewer than eight bits are as a text's end: a symbol and padding, 256 for padding alone, or
+/// 512 for neither. The place is 128 times the count of bits, plus the low seven bits.
 pub(crate) static ENDS: [u16; 1024] = [
     256, 256, 256, 256, 256, 256, 256, 256, 256, 256, 256, 256, 256, 256, 256, 256, 256, 256, 256,
     256, 256, 256, 256, 256, 256, 256, 256, 256, 256, 256, 256, 256, 256, 256, 256, 256, 256, 256,

@@ -1,7 +1,7 @@
 //! The tree of the Huffman code: RFC 7541, appendix B.
 
-/// The two children of each node, for the bits 0 and 1: a node below 256, or a symbol and 256.
-/// The nodes 0 to 7 are those behind so many ones.
+/// The two children of each node, for the bits 0 and 1: a node below 256, or a symbol plus 256.
+/// The nodes 0 to 7 are those after so many ones.
 pub(crate) static TREE: [u16; 512] = [
     8, 1, 11, 2, 18, 3, 33, 4, 54, 5, 71, 6, 74, 7, 75, 76, 9, 10, 12, 13, 14, 15, 16, 17, 19, 20,
     21, 22, 23, 24, 25, 26, 27, 28, 29, 30, 31, 32, 304, 305, 306, 353, 355, 357, 361, 367, 371,

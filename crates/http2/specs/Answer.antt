@@ -8,7 +8,7 @@ abbrev pub value_of : List ℕ → List Line → Option (List ℕ)
 value_of name [] = None
 value_of name (f ∷ fs) = if bytes_eq f.name name then Some f.value else value_of name fs
 
--- the number that a digit stands for
+-- the number that a digit means
 abbrev pub digit_of : ℕ → Option ℕ
 digit_of d = if nat_lt d 48 then None else if nat_lt 57 d then None else Some (d - 48)
 
@@ -73,7 +73,7 @@ meant_by status =
 abbrev pub refusal_in : ℕ → List Line → ℕ
 refusal_in status fields = unwrap_or (number_of (codes "grpc-status") fields) (meant_by status)
 
--- digits behind a number; 10^18 and more are none
+-- a number with these digits after it; 10^18 and more are none
 abbrev pub digits_from : ℕ → List ℕ → Option ℕ
 digits_from n [] = Some n
 digits_from n (d ∷ ds) =
@@ -91,7 +91,7 @@ agrees told None = false
 agrees None (Some n) = true
 agrees (Some m) (Some n) = m == n
 
--- the content-length behind one that was told, or none; nothing if the fields have a wrong one
+-- the content-length, after one that was told, or none; nothing if the fields have a wrong one
 abbrev pub length_from : Option ℕ → List Line → Option (Option ℕ)
 length_from told [] = Some told
 length_from told (f ∷ fs) =

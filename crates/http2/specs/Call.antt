@@ -9,7 +9,7 @@ use Rattle.http2.specs.declared.fault.Code.{Code}
 use Rattle.http2.specs.declared.fault.Fault.{Fault}
 use Rattle.http2.specs.declared.fault.Fault.TheVariants.{Memory, Connection}
 
--- what is next after the frames of a trail that came, one after the other
+-- what is next after the frames of a trail that came, in order
 abbrev pub Follows : List Step → Next → Type 0
 Follows [] next = next ≡ goes_on first_control
 Follows (got frame ∷ trail) next = (c : ControlValue) × Follows trail (goes_on c) × After c frame next
@@ -40,8 +40,8 @@ AreReplies [] parts = parts ≡ []
 AreReplies (got frame ∷ steps) parts = ⊥
 AreReplies (put frame ∷ steps) parts = (is_reply frame ≡ true) × (parts ≡ parts_of frame ∷ []) × (steps ≡ [])
 
--- a frame that passes the window that was announced, or a peer's window above 2^31 - 1 (RFC 9113, 6.9 and 6.9.1); sums of
--- 2^63 octets count as such
+-- A frame that exceeds the announced window, or that raises a peer's window above 2^31 - 1 (RFC 9113, 6.9 and 6.9.1). Sums of
+-- 2^63 octets count as such.
 pub data IsBeyond (u : Unread) (frame : List ℕ) : Type 0 where
   credit : u.credit < flow_of frame → IsBeyond u frame
   stream : 2 ^ 31 ≤ window_after u.window frame + (u.stream + increment_of u.number frame) - u.used → IsBeyond u frame
@@ -56,8 +56,8 @@ pub data StopsAt (u : Unread) (f : Fault) : Type 0 where
   beyond : (frame rest : List ℕ) → u.rest ≡ frame ++ rest → IsFrame frame → IsBeyond u frame
       → f ≡ Connection Code.FlowControl → StopsAt u f
 
--- why a call is over, and what stays of it: the frames that came say so, or what is unread cannot be read on, or the client
--- gave it up, or memory ran out
+-- Why a call is over, and what stays of it. The frames that came say so, what is unread cannot be read on, the client gave
+-- it up, or memory ran out.
 pub data Ends (trail : List Step) (u : Unread) (e : End) (left : Left) : Type 0 where
   by_frame : Follows trail (is_over e left) → Ends trail u e left
   by_fault : (c : ControlValue) → Follows trail (goes_on c) → left ≡ left_by c → (f : Fault) → e ≡ Broken f

@@ -17,8 +17,8 @@ use Rattle.http2.specs.declared.fault.Code.{Code}
 use Rattle.http2.specs.declared.fault.Fault.{Fault}
 use Rattle.http2.specs.declared.fault.Fault.TheVariants.{Connection, Stream}
 
--- how far the call is, the header block that is not whole with the mark that the stream ends behind it and its weight,
--- HPACK's table, how much content is still to come if that was told, and what grpc-message told
+-- How far the call is. The header block that is not whole: whether the stream ends after it, its octets, and its weight.
+-- HPACK's table, how much content is still to come, if that was told, and what grpc-message told.
 pub record ControlValue : Type 0 where
   pub stage : Stage
   pub unfinished : Option Bool
@@ -91,8 +91,8 @@ is_answered Opened = false
 is_answered Asked = false
 is_answered Answered = true
 
--- the frames that may not come now: any before the peer's settings (3.4), any in the middle of a header block but its next
--- part (4.3), and a next part elsewhere
+-- The frames that may not come now. Before the peer's settings, any other frame (3.4). In the middle of a header block, any
+-- but its next part (4.3). Elsewhere, a next part.
 abbrev pub is_out_of_order : ControlValue → List ℕ → Bool
 is_out_of_order c frame =
     if is_opened c.stage then not (is_settings frame)
@@ -108,7 +108,7 @@ is_misplaced c frame =
 abbrev pub settled : ControlValue → ControlValue
 settled c = record c { stage = if is_opened c.stage then Asked else c.stage }
 
--- fields that end the call by its status, behind all of its content (8.1.1)
+-- fields that end the call by its status, after all of its content (8.1.1)
 abbrev pub status_came : ControlValue → List Line → Next
 status_came c fields =
     if is_whole c.left
@@ -121,8 +121,8 @@ answer_began c last fields None = stream_error Code.Protocol c
 answer_began c last fields (Some left) =
     if last then status_came (record c { left = left }) fields else goes_on (record c { stage = Answered; left = left })
 
--- the first fields of an answer, by their status: 1xx is interim and not the end (8.1), and only 200 with gRPC's content
--- is an answer
+-- The first fields of an answer, by their status. 1xx is interim and not the end (8.1). Only 200 with gRPC's content is an
+-- answer.
 abbrev pub first_fields : ControlValue → Bool → List Line → Option ℕ → Next
 first_fields c last fields None = stream_error Code.Protocol c
 first_fields c last fields (Some status) =
@@ -141,7 +141,7 @@ trailers_came c last fields =
     if last then (if are_plain fields then status_came c fields else stream_error Code.Protocol c)
     else stream_error Code.Protocol c
 
--- fields that are within the limit of a field list: those of the answer, and behind its data the trailers
+-- fields that are within the limit of a field list: those of the answer, and after its data the trailers
 abbrev pub fields_came : ControlValue → Bool → Option (List Line) → Next
 fields_came c last None = stream_error Code.EnhanceYourCalm c
 fields_came c last (Some fields) =
@@ -159,7 +159,7 @@ pub data Gathers (c : ControlValue) (whole : Bool) (next : Next) : Type 0 where
       → ((fields : List Line) (table : Table) → Means 4096 false c.table c.block fields table → ⊥)
       → next ≡ connection_error Code.Compression c → Gathers c whole next
 
--- the next part of a header block: it weighs its octets, and nine more, so that empty parts come to an end
+-- the next part of a header block: it weighs its octets, and nine more, so that even empty parts reach the limit
 abbrev pub with_part : ControlValue → ℕ → List ℕ → ControlValue
 with_part c more octets = record c { block = c.block ++ octets; weight = c.weight + more + length octets }
 
@@ -170,7 +170,7 @@ data_came c last (Some left) =
     if last then (if is_whole left then ends (Status None) c else stream_error Code.Protocol c)
     else goes_on (record c { left = left })
 
--- data came: behind the answer's fields alone, and no more than was told (8.1.1)
+-- data came: only after the answer's fields, and no more than was told (8.1.1)
 abbrev pub content_came : ControlValue → Bool → ℕ → Next
 content_came c last count =
     if is_answered c.stage then data_came c last (without c.left count) else stream_error Code.Protocol c

@@ -48,7 +48,7 @@ before_block flags = (if has_flag 8 flags then 1 else 0) + (if has_flag 32 flags
 abbrev pub padding_in : ℕ → List ℕ → ℕ
 padding_in flags payload = if has_flag 8 flags then byte payload 0 else 0
 
--- HEADERS: on a stream; what stands before the block is there, and padding reaches back to the block at most (6.2)
+-- HEADERS: on a stream; the bytes before the block are present, and padding reaches back to the block at most (6.2)
 abbrev pub wrong_headers : ℕ → Bool → List ℕ → Option Fault
 wrong_headers flags on_stream payload =
     if not on_stream then protocol
@@ -64,8 +64,8 @@ wrong_priority on_stream payload =
 abbrev pub wrong_reset : Bool → List ℕ → Option Fault
 wrong_reset on_stream payload = if on_stream then (if length payload == 4 then None else frame_size) else protocol
 
--- 6.5.2: a server takes no pushes, so its setting is at most 0, and a client's at most 1; a window is below 2^31; frames have
--- 2^14 to 2^24 - 1 bytes at most
+-- 6.5.2: A server takes no pushes, so its setting is at most 0, and a client's at most 1. A window is below 2^31. The largest
+-- frame has 2^14 to 2^24 - 1 bytes.
 abbrev pub wrong_setting : ℕ → ℕ → ℕ → Option Fault
 wrong_setting pushes number value =
     if number == 2 then (if nat_lt pushes value then protocol else None)

@@ -64,7 +64,7 @@ abbrev pub are_plain : List Line → Bool
 are_plain [] = true
 are_plain (f ∷ fs) = if is_plain f then are_plain fs else false
 
--- the fields of an answer: the pseudo-field of its status stands in front, alone (8.3, 8.3.2)
+-- the fields of an answer: the pseudo-field of its status is in front, alone (8.3, 8.3.2)
 abbrev pub are_of_answer : List Line → Bool
 are_of_answer [] = false
 are_of_answer (f ∷ fs) = if bytes_eq f.name (codes ":status") then are_plain fs else false

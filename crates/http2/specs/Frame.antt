@@ -2,7 +2,7 @@
 use Rattle.std.specs.List.{AllByRecursion}
 use Rattle.std.specs.Prelude.{◌≡◌, ◌⊎◌, ◌≤◌, ◌<◌, ℕ, ◌+◌, ◌*◌, ◌-◌, ◌/◌, ◌%◌, ◌==◌, Bool, false, not, List, [], ◌∷◌, ◌++◌, length, take, drop, get_or, if◌then◌else◌}
 
--- the byte at a place, and 0 behind the end
+-- the byte at a place, and 0 after the end
 abbrev pub byte : List ℕ → ℕ → ℕ
 byte bytes k = get_or bytes k 0
 
@@ -74,7 +74,7 @@ ends_block frame = (flags_of frame / 4 % 2) == 1
 abbrev pub has_priority : List ℕ → Bool
 has_priority frame = (flags_of frame / 32 % 2) == 1
 
--- the part of a header block that a HEADERS frame has: without padding, behind the five bytes of a priority
+-- the part of a header block that a HEADERS frame has: without padding, after the five bytes of a priority
 abbrev pub fragment_of : List ℕ → List ℕ
 fragment_of frame = if has_priority frame then drop 5 (content_of frame) else content_of frame
 
@@ -169,7 +169,7 @@ abbrev pub data_of_all : ℕ → List (List ℕ) → List ℕ
 data_of_all stream [] = []
 data_of_all stream (frame ∷ frames) = data_on stream frame ++ data_of_all stream frames
 
--- THE GRAMMAR. The bytes are these frames, and behind them less than a frame, or a head that names too large a payload.
+-- THE GRAMMAR. The bytes are these frames, and after them less than a frame, or a head that names too large a payload.
 pub record AreCut (bytes : List ℕ) (frames : List (List ℕ)) (rest : List ℕ) : Type 0 where
   pub whole : bytes ≡ joined frames ++ rest
   pub are : AllByRecursion IsFrame frames

@@ -15,19 +15,19 @@ pub record BlockValue : Type 0 where
 abbrev pub first_block : BlockValue
 first_block = record { octets = []; weight = 0; table = record { entries = []; limit = 4096 } }
 
--- what a part makes of a block: it is too heavy, it is still a part, it cannot be read, or its fields, if they are within the
--- limit of a field list
+-- What a part makes of a block. It is too heavy, it is still a part, or it cannot be read. Else it gives its fields, if they are
+-- within the limit of a field list.
 pub data Gathered : Type 0 where
   heavy : Gathered
   part : Gathered
   garbled : Gathered
   whole : Option (List Line) → Gathered
 
--- the next part of a block: it weighs its octets, and so much more, so that empty parts come to an end
+-- the next part of a block: it weighs its octets, and so much more, so that even empty parts reach the limit
 abbrev pub with_more : BlockValue → ℕ → List ℕ → BlockValue
 with_more b more octets = record { octets = b.octets ++ octets; weight = b.weight + more + length octets; table = b.table }
 
--- what a block is with its last part so far: its weight is at most 32,768, and whole it has a meaning (RFC 7541), or a fault
+-- What a block is with its last part so far. Its weight is at most 32,768. A whole block has a meaning (RFC 7541), or a fault.
 pub data Gathers (b : BlockValue) (ends : Bool) (g : Gathered) (after : BlockValue) : Type 0 where
   too_heavy : 32768 < b.weight → g ≡ heavy → Gathers b ends g after
   still_part : b.weight ≤ 32768 → ends ≡ false → g ≡ part → after ≡ b → Gathers b ends g after

@@ -17,7 +17,7 @@ is_pseudo name =
     else if bytes_eq name (codes ":path") then true
     else bytes_eq name (codes ":authority")
 
--- a field that may be behind them: te says that trailers are taken, and nothing else (8.2.2)
+-- a field that may come after the pseudo-fields: te says that trailers are taken, and nothing else (8.2.2)
 abbrev pub is_allowed : Line → Bool
 is_allowed f = if bytes_eq f.name (codes "te") then bytes_eq f.value (codes "trailers") else is_plain f
 
@@ -32,7 +32,7 @@ are_in_order [] = true
 are_in_order (f ∷ fs) =
     if is_pseudo f.name then (if is_value f.value then are_in_order fs else false) else are_allowed (f ∷ fs)
 
--- a value that is there has octets
+-- there is a value, and it has octets
 abbrev pub has_octets : Option (List ℕ) → Bool
 has_octets None = false
 has_octets (Some []) = false

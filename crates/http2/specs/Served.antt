@@ -24,7 +24,7 @@ abbrev pub owed_for : List ℕ → Turn → List Parts
 owed_for frame (on c) = answers_to frame c.refused
 owed_for frame (over o r) = []
 
--- the turn after the frames of a trail that came, one after the other, and the answers that are owed to them, the oldest first
+-- the turn after the frames of a trail that came, in order, and the answers that are owed to them, the oldest first
 abbrev pub Serves : List Step → Turn → List Parts → Type 0
 Serves [] turn owed = (turn ≡ on first_serving) × (owed ≡ [])
 Serves (got frame ∷ trail) turn owed = (c : ServingValue) × (before : List Parts) × Serves trail (on c) before
@@ -47,7 +47,7 @@ AreAnswers [] parts = parts ≡ []
 AreAnswers (got frame ∷ steps) parts = ⊥
 AreAnswers (put frame ∷ steps) parts = (is_answer frame ≡ true) × (parts ≡ parts_of frame ∷ []) × (steps ≡ [])
 
--- a frame that a server writes behind its settings: an answer, fields of the call's stream, GOAWAY, or one that moves bytes of
+-- a frame that a server writes after its settings: an answer, fields of the call's stream, GOAWAY, or one that moves bytes of
 -- the call
 pub data IsSaid (number : ℕ) (frame : List ℕ) : Type 0 where
   answer : is_answer frame ≡ true → IsSaid number frame
@@ -61,8 +61,8 @@ AreSaid number [] = Unit {0}
 AreSaid number (got frame ∷ trail) = AreSaid number trail
 AreSaid number (put frame ∷ trail) = IsSaid number frame × AreSaid number trail
 
--- why a call is over, and what stays of it: the frames that came say so, or what is unread cannot be read on, or the peer did
--- not begin with the preface (3.4), or the answer was written to its end, or memory ran out
+-- Why a call is over, and what stays of it. The frames that came say so, or what is unread cannot be read on. Or the peer did
+-- not begin with the preface (3.4), the answer was written to its end, or memory ran out.
 pub data Stops (trail : List Step) (u : Unread) (o : Over) (r : Remains) : Type 0 where
   by_frame : (owed : List Parts) → Serves trail (over o r) owed → Stops trail u o r
   by_fault : (c : ServingValue) (owed : List Parts) → Serves trail (on c) owed → r ≡ remains_of c

@@ -21,7 +21,7 @@ Acts frame pipe serving new_pipe new_serving end = (trail : List Step) (came sen
     → (later : List Step) × Law later came sent took gave (line new_pipe)
     × IsServed later (serving_view new_serving) end (unread new_pipe)
 
--- the call's stream behind a frame: that which the frame opened, if none was open
+-- the call's stream after a frame: that which the frame opened, if none was open
 abbrev pub opened_as : ℕ → ℕ → ℕ
 opened_as before number =
     if before == unopened then (if nat_lt 0 number then (if nat_lt number unopened then number else before) else before) else before
@@ -33,8 +33,8 @@ pub record Heads (stream flags : ℕ) (fields : List HeaderLine) (frame : List �
   pub on_stream : stream_of frame ≡ stream
   pub means : (most : ℕ) (table : Table) → Means most false table (payload_of frame) fields table
 
--- THE LAW OF A CALL THAT IS SERVED. Of all bytes that came, all that were sent, all data that the core took and all that it gave:
--- the bytes that came are the preface, as far as it came, and then by the law of a trail the frames that passed; after them the
+-- THE LAW OF A CALL THAT IS SERVED. It relates all bytes that came, all that were sent, and all data that the core took and gave.
+-- The bytes that came are the preface, as far as it came, and then by the law of a trail the frames that passed. After them the
 -- call is as it is. A server sends no preface: so the law is that of the bytes that it sent, with the preface in front.
 pub record ServeLaw (came sent took gave : List ℕ) (s : Server) : Type 0 where
   pub later : List ℕ

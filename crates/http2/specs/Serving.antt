@@ -17,9 +17,9 @@ use Rattle.http2.specs.declared.fault.Code.{Code}
 use Rattle.http2.specs.declared.fault.Fault.{Fault}
 use Rattle.http2.specs.declared.fault.Fault.TheVariants.{Connection, Stream}
 
--- how far the call is; the stream of the header block that is not whole, or 0, and whether the stream ends behind it; the
--- block; the call's stream; the greatest stream that the peer opened; how much content is still to come if that was told; the
--- request's fields; and the stream that the last frame opened beside the call's, which is refused
+-- How far the call is. The stream of the header block that is not whole, or 0, whether the stream ends after it, and the block.
+-- The call's stream, and the greatest that the peer opened. How much content is still to come, if that was told, and the
+-- request's fields. The stream that the last frame opened beside the call's: it is refused.
 pub record ServingValue : Type 0 where
   pub phase : Phase
   pub unfinished : ℕ
@@ -101,8 +101,8 @@ is_idle c stream =
     else if c.number == unopened then true
     else if (stream % 2) == 0 then true else nat_lt c.last stream
 
--- a frame on a stream that cannot be on it: fields on one of even number, and DATA, RST_STREAM and WINDOW_UPDATE on one that is
--- idle (5.1)
+-- a frame on a stream where it cannot be: fields on one of even number, and DATA, RST_STREAM and WINDOW_UPDATE on an idle
+-- one (5.1)
 abbrev pub is_astray : ServingValue → List ℕ → Bool
 is_astray c frame =
     if kind_of frame == 1 then (stream_of frame % 2) == 0
@@ -110,8 +110,8 @@ is_astray c frame =
     else if kind_of frame == 3 then is_idle c (stream_of frame)
     else if kind_of frame == 8 then is_idle c (stream_of frame) else false
 
--- the frames that may not come now: any before the peer's settings (3.4), any in the middle of a header block but its next
--- part, on its stream (4.3, 6.10), a next part elsewhere, and those that are astray
+-- The frames that may not come now. Before the peer's settings, any other frame (3.4). In the middle of a header block, any but
+-- its next part, on its stream (4.3, 6.10). Elsewhere, a next part, and those that are astray.
 abbrev pub is_misplaced : ServingValue → List ℕ → Bool
 is_misplaced c frame =
     if is_silent c.phase then not (is_settings frame)
@@ -122,7 +122,7 @@ is_misplaced c frame =
 abbrev pub settled : ServingValue → ServingValue
 settled c = record c { phase = if is_silent c.phase then Waiting else c.phase; refused = None }
 
--- the phase behind fields or data: the last of them close the call
+-- the phase after fields or data: the last of them close the call
 abbrev pub phase_behind : Bool → Phase
 phase_behind ends = if ends then Closed else Open
 
@@ -139,7 +139,7 @@ request_came c stream None = fails Code.EnhanceYourCalm c
 request_came c stream (Some fields) =
     if is_request fields then opened c stream fields (length_from None fields) else fails Code.Protocol c
 
--- trailers of the call end its data, unless they are malformed (8.1); none come behind the end (5.1)
+-- trailers of the call end its data, unless they are malformed (8.1); none come after the end (5.1)
 abbrev pub trailers_came : ServingValue → Option (List Line) → Turn
 trailers_came c None = fails Code.EnhanceYourCalm c
 trailers_came c (Some fields) =

@@ -75,7 +75,7 @@ offered [] = 65535
 offered (got frame ∷ trail) = offered trail
 offered (put frame ∷ trail) = window_after (offered trail) frame
 
--- whether the data are at their end, behind a frame that was written
+-- whether the data are at their end, after a frame that was written
 abbrev pub finished_after : Bool → List ℕ → Bool
 finished_after before frame = if kind_of frame == 0 then (if ends_stream frame then true else before) else before
 
@@ -85,7 +85,7 @@ is_finished [] = false
 is_finished (got frame ∷ trail) = is_finished trail
 is_finished (put frame ∷ trail) = finished_after (is_finished trail) frame
 
--- the mark of the ping that waits, behind a frame that was written
+-- the mark of the ping that waits, after a frame that was written
 abbrev pub pinged : Option ℕ → List ℕ → Option ℕ
 pinged waits frame = if is_ping frame then Some (mark_of frame) else waits
 
@@ -94,7 +94,7 @@ abbrev pub unless_marked : Option ℕ → ℕ → Option ℕ
 unless_marked None mark = None
 unless_marked (Some n) mark = if n == mark then None else Some n
 
--- the mark of the ping that waits, behind a frame that came
+-- the mark of the ping that waits, after a frame that came
 abbrev pub ponged : Option ℕ → List ℕ → Option ℕ
 ponged waits frame = if is_pong frame then unless_marked waits (mark_of frame) else waits
 
@@ -126,8 +126,8 @@ AreMoves number (put frame ∷ steps) = IsMove number frame × AreMoves number s
 abbrev pub cancelling : Parts
 cancelling = record { kind = 3; flags = 0; stream = 1; payload = 0 ∷ 0 ∷ 0 ∷ 8 ∷ [] }
 
--- a frame that a client writes on its own account behind its opening: data of the call, a window given back, a ping, the
--- call's reset, and GOAWAY, which names no stream as served
+-- A frame that a client writes on its own account after its opening. It is data of the call, a window given back, a ping, the
+-- call's reset, or GOAWAY. GOAWAY names no stream as served.
 pub data IsOwn (frame : List ℕ) : Type 0 where
   own_data : kind_of frame ≡ 0 → stream_of frame ≡ 1 → IsOwn frame
   own_window : kind_of frame ≡ 8 → flags_of frame ≡ 0 → IsOwn frame
@@ -153,8 +153,8 @@ AreFrames [] = Unit {0}
 AreFrames (got frame ∷ trail) = IsFrame frame × AreFrames trail
 AreFrames (put frame ∷ trail) = IsFrame frame × AreFrames trail
 
--- each DATA frame that was written was within both windows, that of the stream and that of the connection, as the peer had
--- granted them until then
+-- each DATA frame that was written was within both windows, the stream's and the connection's, as the peer had granted them
+-- until then
 abbrev pub IsGranted : ℕ → List Step → Type 0
 IsGranted stream [] = Unit {0}
 IsGranted stream (got frame ∷ trail) = IsGranted stream trail
@@ -163,7 +163,7 @@ IsGranted stream (put frame ∷ trail) =
     × (spent trail + flow_of frame ≤ 65535 + raised 0 trail))
     × IsGranted stream trail
 
--- no DATA frame was written behind the last of the data (RFC 9113, 5.1)
+-- no DATA frame was written after the last of the data (RFC 9113, 5.1)
 abbrev pub IsOpen : List Step → Type 0
 IsOpen [] = Unit {0}
 IsOpen (got frame ∷ trail) = IsOpen trail
@@ -183,7 +183,7 @@ settings_frame = 0 ∷ 0 ∷ 18 ∷ 4 ∷ 0 ∷ 0 ∷ 0 ∷ 0 ∷ 0 ∷ 0 ∷ 2 
 abbrev pub window_frame : List ℕ
 window_frame = 0 ∷ 0 ∷ 4 ∷ 8 ∷ 0 ∷ 0 ∷ 0 ∷ 0 ∷ 0 ∷ 0 ∷ 15 ∷ 0 ∷ 6 ∷ []
 
--- the frames behind the preface, before those of the call
+-- the frames after the preface, before those of the call
 abbrev pub connected : List Step
 connected = put window_frame ∷ put settings_frame ∷ []
 
@@ -206,15 +206,15 @@ AreQuiet [] = Unit {0}
 AreQuiet (got frame ∷ trail) = IsQuiet frame × AreQuiet trail
 AreQuiet (put frame ∷ trail) = IsQuiet frame × AreQuiet trail
 
--- a trail that begins so, and then with this frame, which has the call's fields; what was written behind it is the
--- client's own, and acknowledgements
+-- A trail that begins so, and then with this frame, which has the call's fields. What was written after it is the client's
+-- own, and acknowledgements.
 pub record Begins (first : List ℕ) (trail : List Step) : Type 0 where
   pub later : List Step
   pub whole : trail ≡ later ++ put first ∷ connected
   pub written : AreWritten later
 
--- what is kept: the number of the call's stream, bytes of the peer that are no whole frame yet or were not looked at, data
--- for the core, bytes for the peer, and the sums of the trail; a credit is what the peer may still send
+-- What is kept: the number of the call's stream, and bytes of the peer that are no whole frame yet or were not looked at. Also
+-- data for the core, bytes for the peer, and the sums of the trail. A credit is what the peer may still send.
 pub record Line : Type 0 where
   pub number : ℕ
   pub rest : List ℕ
@@ -243,10 +243,10 @@ pub record Unread : Type 0 where
 abbrev pub allowed : Line → ℕ
 allowed line = min (line.window + line.stream - line.used) (65535 + line.connection - line.used)
 
--- THE LAW. Of a trail, all bytes that came, all that were sent, all data that the core took and all that it gave: the
--- bytes that came are the trail's frames, and then the rest; the data of the call's frames among them are those that the
--- core took, and then those that wait; the bytes sent, and then those that wait, are the preface and frames; their data
--- are those that the core gave; each was within the windows, and none behind the last. What the peer was granted, on its
+-- THE LAW. It relates a trail to all bytes that came, all that were sent, and all data that the core took and gave. The bytes
+-- that came are the trail's frames, and then the rest. The data of the call's frames among them are those that the core
+-- took, and then those that wait. The bytes sent, and then those that wait, are the preface and frames. Their data are those
+-- that the core gave. Each was within the windows, and none was written after the last. What the peer was granted, on its
 -- stream and on its connection, is what came of it and the credit.
 pub record Law (trail : List Step) (came sent took gave : List ℕ) (line : Line) : Type 0 where
   pub frames : AreFrames trail

@@ -29,9 +29,9 @@ pub record Asks (frame : List ℕ) (fields : List HeaderLine) : Type 0 where
   pub stream : stream_of frame ≡ 1
   pub means : (most : ℕ) (table : Table) → Means most false table (payload_of frame) fields table
 
--- THE LAW OF A CALL. Of the frame with its fields, all bytes that came, all that were sent, all data that the core took and
--- all that it gave: there is a trail by whose law they are the frames that passed, and after whose frames the call is as it
--- is.
+-- THE LAW OF A CALL. It relates the frame with its fields, all bytes that came, all that were sent, and all data that the core
+-- took and gave. There is a trail by whose law they are the frames that passed. After the frames of this trail the call is as
+-- it is.
 pub record CallLaw (first came sent took gave : List ℕ) (t : Tunnel) : Type 0 where
   pub trail : List Step
   pub law : Law trail came sent took gave (line t.pipe)

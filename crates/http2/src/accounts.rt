@@ -75,7 +75,7 @@ fn after_settings(window: u32, payload: &[u8]) -> u32
     window
 }
 
-/// The settings behind the first.
+/// The settings after the first.
 pub(crate) fn behind(rest: &[u8]) -> &[u8]
     requires { 6 ≤ length rest.now }
     ensures { result.now ≡ drop 6 rest.now }
@@ -112,7 +112,7 @@ fn mark(frame: &Frame) -> u64
     (word(payload, 0) as u64) * 4_294_967_296 + word(payload, 4) as u64
 }
 
-/// The mark of the ping that waits, behind a frame that came.
+/// The mark of the ping that waits, after a frame that came.
 pub(crate) fn ponged(waits: Option<u64>, frame: &Frame) -> Option<u64>
     ensures { result ≡ ponged waits frame.now.bytes.items }
 {

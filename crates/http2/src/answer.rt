@@ -21,7 +21,7 @@ pub(crate) fn value_of<'a>(fields: &'a [Field], name: &[u8]) -> Option<&'a [u8]>
     None
 }
 
-// The number that a digit stands for.
+// The number that a digit means.
 fn digit_of(digit: u8) -> Option<u32>
     ensures { result ≡ digit_of digit }
 {

@@ -68,7 +68,7 @@ fn check_data(flags: u8, on_stream: bool, payload: &[u8]) -> Result<(), Fault>
     check_padding(flags, payload)
 }
 
-// How many bytes stand before the block of HEADERS: the length of padding, and a priority.
+// How many bytes come before the block of HEADERS: the length of padding, and a priority.
 fn before_block(flags: u8) -> usize
     ensures value { result ≡ before_block flags }
     ensures few { result ≤ 6 }

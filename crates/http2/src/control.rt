@@ -34,7 +34,7 @@ pub enum Stage {
 #[derive(Debug, Drop)]
 pub(crate) struct Control {
     stage: Stage,
-    // the header block that is not whole: whether the stream ends behind it, its octets, and its weight
+    // the header block that is not whole: whether the stream ends after it, its octets, and its weight
     unfinished: Option<bool>,
     block: Vec<u8>,
     weight: usize,

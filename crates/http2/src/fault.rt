@@ -37,7 +37,7 @@ impl Fault {
     ghost use Rattle.std.specs.Prelude.{◌≡◌};
     ghost use Rattle.http2.specs.Exchanged.{number_of, code_of};
 
-    /// The code that the peer is told.
+    /// The code that the peer gets.
     pub fn code(&self) -> Code
         ensures { number_of result ≡ code_of self.now }
     {

@@ -6,7 +6,7 @@ ghost use Rattle.http2.specs.Fields.{is_in_name, all_in_name, is_name, is_in_val
 
 use hpack::Field;
 
-// Whether an octet may stand in a name.
+// Whether an octet may be in a name.
 fn is_in_name(byte: u8) -> bool
     ensures { result ≡ is_in_name byte }
 {
@@ -37,7 +37,7 @@ fn is_name(name: &[u8]) -> bool
     }
 }
 
-// Whether an octet may stand in a value.
+// Whether an octet may be in a value.
 fn is_in_value(byte: u8) -> bool
     ensures { result ≡ is_in_value byte }
 {

@@ -59,7 +59,7 @@ impl Frame {
         word(&self.bytes, 5) % (1 << 31)
     }
 
-    /// Whether the stream ends behind the frame, if it is one of DATA or HEADERS.
+    /// Whether the stream ends after the frame, if it is one of DATA or HEADERS.
     pub fn ends_stream(&self) -> bool
         ensures { result ≡ ends_stream self.now.bytes.items }
     {
@@ -90,7 +90,7 @@ impl Frame {
         self.payload()
     }
 
-    /// The part of a header block that the frame has, if it is one of HEADERS: behind the five bytes of a priority.
+    /// The part of a header block that the frame has, if it is one of HEADERS: after the five bytes of a priority.
     pub fn fragment(&self) -> &[u8]
         ensures { result.now ≡ fragment_of self.now.bytes.items }
     {
@@ -119,7 +119,7 @@ fn unpadded(payload: &[u8]) -> &[u8]
     }
 }
 
-/// The byte at a place, and 0 behind the end.
+/// The byte at a place, and 0 after the end.
 pub(crate) fn byte(bytes: &[u8], at: usize) -> u8
     ensures { result ≡ byte bytes.now at }
 {
@@ -129,7 +129,7 @@ pub(crate) fn byte(bytes: &[u8], at: usize) -> u8
     }
 }
 
-/// Four bytes as a number, the highest first; those behind the end are 0.
+/// Four bytes as a number, the highest first; those after the end are 0.
 pub(crate) fn word(bytes: &[u8], at: usize) -> u32
     requires { at < 2 ^ 32 }
     ensures { result ≡ word_at bytes.now at }

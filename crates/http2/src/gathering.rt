@@ -6,7 +6,7 @@ use hpack::{Decoder, Field, HpackError};
 use std::alloc::{AllocError, Global};
 use std::mem::replace;
 
-/// The most that a header block weighs: its octets, and nine more for each part behind the first.
+/// The most that a header block weighs: its octets, and nine more for each part after the first.
 pub(crate) const MOST_WEIGHT: usize = 32_768;
 
 /// The most octets of the fields of a header block, with 32 more for each (RFC 9113, 6.5.2).

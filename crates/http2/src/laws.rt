@@ -26,8 +26,8 @@ pub fn core_takes_the_data()
         → (more : List ℕ) × (data_of_all line.number frames ≡ (took ++ line.data_in) ++ more) }
 {}
 
-/// What the peer reads behind the preface is a beginning of what the core gave, as the data of the frames that the bytes
-/// sent are.
+/// The peer reads frames in the bytes that were sent after the preface. Their data are a beginning of what the core
+/// gave.
 pub fn peer_reads_what_was_given()
     ensures { (trail : List Step) (came sent took gave : List ℕ) (line : Line) (bytes : List ℕ) (frames : List (List ℕ)) (rest : List ℕ)
         → Law trail came sent took gave line → sent ≡ preface ++ bytes → AreCut bytes frames rest

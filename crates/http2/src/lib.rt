@@ -13,7 +13,7 @@
 //! calls `ping` with the time: `ping_waits` has it until the peer has acknowledged.
 //!
 //! A [`Server`] is used the same way. Once `request` has the request's fields, its caller gives `answer` the fields that begin
-//! the answer, and at the end `finish` those that end it; `over` says why the call is over.
+//! the answer. At the end it gives `finish` those that end it. `over` says why the call is over.
 //!
 //! A [`UnaryServer`] has many calls on one connection. `receive` and `work` look at the client's frames and answer those, give the
 //! connection's window back, and say why it ends. They never write an answer of a call: `answer`, `say` and `finish` do.

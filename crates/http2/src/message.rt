@@ -41,7 +41,7 @@ fn hex_of(digit: u8) -> u8
     digit - 87
 }
 
-// The octet that the first three stand for, if they are a code.
+// The octet that the first three encode, if they are a code.
 fn coded(text: &[u8]) -> Option<u8>
     ensures code { IfSome result (λ octet. (3 ≤ length text.now) × (decoded text.now ≡ octet ∷ decoded (drop 3 text.now))) }
     ensures plain { (byte : ℕ) (rest : List ℕ) → result ≡ None → text.now ≡ byte ∷ rest
@@ -58,7 +58,7 @@ fn coded(text: &[u8]) -> Option<u8>
     }
 }
 
-// The octets that a value stands for.
+// The octets that a value encodes.
 fn decoded(alloc: Global, value: &[u8]) -> Result<Vec<u8>, AllocError>
     ensures { IfOk result (λ text. text.items ≡ decoded value.now) }
 {

@@ -44,7 +44,7 @@ impl Queue {
         self.bytes.len()
     }
 
-    /// Adds bytes behind the others. If memory runs out all is as before.
+    /// Adds bytes after the others. If memory runs out all is as before.
     pub(crate) fn push(&mut self, bytes: &[u8]) -> Result<(), AllocError>
         ensures found { OnOk result (self.new ≡ self.old ++ bytes.now) }
         ensures fault { OnErr result (self.new ≡ self.old) }

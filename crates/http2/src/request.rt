@@ -34,7 +34,7 @@ fn is_pseudo(name: &[u8]) -> bool
         || name == b":authority".as_slice()
 }
 
-// Whether the field may be behind them.
+// Whether the field may come after the pseudo-fields.
 fn is_allowed(field: &Field) -> bool
     ensures { result ≡ is_allowed (line_of field.now) }
 {
@@ -75,7 +75,7 @@ fn are_in_order(fields: &[Field]) -> bool
     true
 }
 
-// Whether a value that is there has octets.
+// Whether there is a value, and it has octets.
 fn has_octets(value: Option<&[u8]>) -> bool
     ensures { result ≡ has_octets (option_map (λ v. v.now) value.entry) }
 {

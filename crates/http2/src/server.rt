@@ -103,7 +103,7 @@ impl Server {
         count
     }
 
-    /// Looks at the frames that are there, and gives windows back. A fault ends the call, and the peer is told. Its
+    /// Looks at the frames that came, and gives windows back. A fault ends the call, and the peer learns of it. Its
     /// caller calls it after `sent`: while too much waits, nothing is looked at or given back.
     pub fn work(&mut self, alloc: Global)
         ensures stays { Stays self.old self.new }
@@ -213,7 +213,7 @@ impl Server {
         self.pipe.say(alloc, bytes)
     }
 
-    /// Writes the fields that end the answer, such as grpc-status: its trailers, or all of it if `answer` wrote none. The call is
+    /// Writes the fields that end the answer, such as grpc-status: its trailers, or the whole answer if `answer` wrote none. The call is
     /// then over. Returns whether they are written.
     pub fn finish(&mut self, alloc: Global, fields: &[Field]) -> Result<bool, Fault>
         ensures over { result ≡ Ok true → self.new.over ≡ Some Answered }

@@ -33,7 +33,7 @@ pub enum Phase {
 #[derive(Debug, Drop)]
 pub(crate) struct Serving {
     phase: Phase,
-    // the stream of the header block that is not whole, or 0, and whether the stream ends behind it; the block
+    // the stream of the header block that is not whole, or 0, and whether the stream ends after it; the block
     unfinished: u32,
     ends: bool,
     block: Gathering,
@@ -49,7 +49,7 @@ pub(crate) struct Serving {
     ghost refuses: { ForSome refused (λ n. n < 2147483648) },
 }
 
-// The phase behind fields or data.
+// The phase after fields or data.
 fn phase_behind(ends: bool) -> Phase
     ensures { result ≡ phase_behind ends }
 {

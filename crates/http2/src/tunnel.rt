@@ -15,7 +15,7 @@ use std::alloc::{AllocError, Global};
 /// While more bytes than this wait for the peer, its frames are not looked at.
 pub const PENDING: usize = 65_536;
 
-/// The most bytes that wait for the peer before it is told why the call ends: those, and one frame more.
+/// The most bytes that wait for the peer before it learns why the call ends: `PENDING`, and one frame more.
 pub(crate) const MOST_WAITING: usize = 81_929;
 
 /// A client with one call.
@@ -76,7 +76,7 @@ impl Tunnel {
         Ok(count)
     }
 
-    /// Looks at the frames that are there, and gives windows back. A fault ends the call, and the peer is told. Its
+    /// Looks at the frames that came, and gives windows back. A fault ends the call, and the peer learns of it. Its
     /// caller calls it after `sent`: while too much waits, nothing is looked at or given back.
     pub fn work(&mut self, alloc: Global)
         ensures looked { (self.new.end ≢ None) ⊎ ((65536 < length self.new.pipe.out)
@@ -121,7 +121,7 @@ impl Tunnel {
     }
 
     /// Takes the first of the core's bytes, as far as the peer's windows and the bytes that wait allow. None are taken
-    /// behind `finish`.
+    /// after `finish`.
     pub fn say(&mut self, alloc: Global, bytes: &[u8]) -> Result<usize, AllocError>
         ensures count { IfOk result (λ n. n ≤ length bytes.now) }
         ensures most { IfOk result (λ n. self.old.end ≡ None → length self.old.pipe.out ≤ 65536
@@ -155,7 +155,7 @@ impl Tunnel {
         Ok(true)
     }
 
-    /// Gives the call up: it is over, and the peer is told by RST_STREAM, if there is memory for it and not too much
+    /// Gives the call up: it is over, and the peer gets RST_STREAM, if there is memory for it and not too much
     /// waits.
     pub fn cancel(&mut self, alloc: Global) -> Result<(), AllocError>
         ensures end { self.new.end ≡ (if is_some self.old.end then self.old.end else Some Cancelled) }
@@ -227,7 +227,7 @@ impl Tunnel {
         self.control.message()
     }
 
-    /// How many octets of grpc-message were left out behind those.
+    /// How many octets of grpc-message were left out after those.
     pub fn message_cut(&self) -> usize
         ensures { result ≡ (control_view self.now.control).told.cut }
     {

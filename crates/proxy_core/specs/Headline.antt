@@ -1,7 +1,7 @@
--- The headline: for every list of events, the proxy acknowledges exactly the responses whose policies are admissible, and
--- answers each request within the declared limits by CEL's meaning of the policies acknowledged before it, an error
--- counting as no match; no run lacks an operand, meets a wrong kind, leaves its code or exceeds its admitted steps; or
--- memory runs out.
+-- The headline: for every list of events, the proxy acknowledges exactly the responses whose policies are admissible. It
+-- answers each request within the declared limits by CEL's meaning of the policies acknowledged before it. An error counts
+-- as no match. No run lacks an operand, meets a wrong kind, leaves its code or exceeds its admitted steps. All this holds,
+-- or memory runs out.
 use Rattle.std.specs.Prelude.{◌≡◌, ◌≤◌, ℕ, List, [], ◌∷◌, Option, Some, IfSome, IsSomeAnd}
 use Rattle.std.specs.FinMap.{get}
 use Rattle.std.specs.List.{AllByRecursion}

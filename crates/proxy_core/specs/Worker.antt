@@ -4,8 +4,8 @@ use Rattle.std.specs.Prelude.{ℕ, ◌==◌, Option, Some, None, List, [], ◌�
 use Rattle.proxy_core.specs.Events.{EventValue, ads_up, ads_bytes, ads_lost, http_open, http_bytes, http_closed}
 use Rattle.proxy_core.specs.Step.{EventCall, answered, no_memory}
 
--- the event as the connection in place `k` sees it, which takes itself for that in place 0; none if it is an event of
--- another connection
+-- the event as the connection in place `k` sees it, which takes itself for that in place 0. It sees none if it is an event
+-- of another connection
 abbrev pub seen_at : ℕ → EventValue → Option EventValue
 seen_at k ads_up = Some ads_up
 seen_at k (ads_bytes bytes) = Some (ads_bytes bytes)

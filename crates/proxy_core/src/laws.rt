@@ -24,8 +24,8 @@ pub fn filters_have_what_was_acknowledged_last()
         → AllZip (HasLast c past) c.filters (acknowledged_in c past).policies }
 {}
 
-/// A worker has one update stream and any number of connections. What it puts out on the stream and at one of the
-/// connections is what a proxy with this connection alone puts out, and it keeps the same. So the headline holds of it.
+/// A worker has one update stream and any number of connections. On the stream and at one of the connections, it puts out
+/// what a proxy with this connection alone puts out. It keeps the same, too. So the headline holds of it.
 pub fn worker_is_a_proxy()
     ensures same { (c : ConfigValue) (n k : ℕ) (calls : List EventCall) (end : ProxyValue) → k < n
         → CallsDo (new_with n c) calls end

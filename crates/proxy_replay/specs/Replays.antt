@@ -27,7 +27,7 @@ printed_of (call ∷ calls) = answer_line call ++ printed_of calls
 abbrev pub IsLineText : List ℕ → EventValue → Type 0
 IsLineText bytes event = IsUtf8 bytes × IsLine bytes event
 
--- the event as a replay sees it: as it is; or, in a replay of connection `k` alone, as that connection sees it, and none
+-- the event as a replay sees it: as it is. A replay of connection `k` alone sees it as that connection does, and sees none
 -- if it is an event of another
 abbrev pub seen_by : Option ℕ → EventValue → Option EventValue
 seen_by None event = Some event

@@ -7,7 +7,7 @@ use program_texts::{InvalidValue, is_among, items_at, number_or, str_at};
 use serde_json::Value;
 use std::alloc::{AllocError, Global};
 
-// How many causes are told, at most.
+// How many causes are reported, at most.
 const MOST_CAUSES: usize = 16;
 
 /// The meaning of a configuration, in lines for its author.

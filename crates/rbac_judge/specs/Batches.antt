@@ -88,8 +88,8 @@ answer_text (bad id n cause) = with_id id (compact_text (bad_json n cause) ++ 10
 abbrev pub answers_text : List Answer → List ℕ
 answers_text = flat_map answer_text
 
--- what was printed of some answers when this fault ended a batch: all if the input failed or memory ran out, not all if
--- the output failed
+-- what was printed of some answers when this fault ended a batch. All were printed if the input failed or memory ran out,
+-- and not all if the output failed
 abbrev pub LeavesAnswers : Option (List ℕ) → Option (List ℕ) → List ℕ → ReplayFault → Type 0
 LeavesAnswers out out_new text (faults.Line n cause) = ⊥
 LeavesAnswers out out_new text (faults.Input cause) =

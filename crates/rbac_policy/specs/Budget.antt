@@ -1,4 +1,4 @@
--- Where a filter's conditions together take more than the budget has: at the first condition, in the order of the
+-- Where a filter's conditions together take more than the budget has. That is at the first condition, in the order of the
 -- policies' names, with which the sum is above it.
 use Rattle.std.specs.Prelude.{◌≡◌, ◌++◌, ℕ, List, [], ◌∷◌, length}
 use Rattle.std.specs.FinMap.{entries}

@@ -27,8 +27,8 @@ use Rattle.rbac_policy.specs.Fault.{FilterFault, PolicyFault, RulesFault}
 use Rattle.rbac_policy.specs.Keys.{rules_keys, filter_field, rules_field, policy_field}
 use Rattle.rbac_policy.specs.Message.{condition_in, rule_depth}
 
--- a part of a filter: its message, its rules, a policy, the condition of a policy, or a part of one of its
--- permissions or principals; each with its payloads. A part of a condition is what these steps name in it
+-- a part of a filter: its message, its rules, a policy, a policy's condition, or a part of one of its permissions
+-- or principals. Each has its payloads. A part of a condition is what these steps name in it
 pub data Part : Type 0 where
   of_filter : (bytes : List ℕ) → Part
   of_rules : (parts : List (List ℕ)) → Part

@@ -43,8 +43,8 @@ pub fn filter_unique()
         → Admits bytes limits budget f g → Admits bytes limits budget f' g' → (f ≡ f') × (g ≡ g') }
 {}
 
-/// A filter's conditions together take these steps and visits if and only if the enforced filter may take these
-/// steps, and these visits were taken for it.
+/// A filter's conditions together take these steps and visits exactly if the enforced filter may take these steps,
+/// and these visits were taken for it.
 pub fn bound_is_cost()
     ensures { (limits : LimitsValue) (filter : Filter CelChecked) (enforced : Filter Program) (needs : Budget)
         → Enforces limits filter enforced

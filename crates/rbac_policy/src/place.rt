@@ -170,7 +170,7 @@ fn part_of_side(
     format!(in alloc; "{name}[{index}]{path}").ok()
 }
 
-// How many fields of this number stand before the position.
+// How many fields of this number are before the position.
 fn index_of(fields: &[Field<'_>], number: u32, position: usize) -> usize {
     let mut index = 0usize;
     for (at, field) in fields.iter().enumerate() {

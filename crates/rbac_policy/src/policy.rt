@@ -64,8 +64,8 @@ impl NamedPolicy {
 
 /// Reads the policies of the map's entries, which ascend by name, for requests within the limits, and appends
 /// their rules to the list. Their conditions together may take what is left of a budget, which is `left` before the
-/// call. Also gives how many steps they may take. After the call, `left` is what these policies leave; or those before
-/// a fault, whose place begins with the policy that has it, by its index.
+/// call. Also gives how many steps they may take. After the call, `left` is what these policies leave, or what
+/// those before a fault leave. The place of a fault begins with the policy that has it, by its index.
 pub(crate) fn read_policies(
     list: &mut RuleList,
     named: &[MapEntry<'_, &str>],
@@ -122,7 +122,7 @@ fn read_entry(
 
 // Reads a policy from its parts, for requests within the limits; its condition may take what is left of a
 // budget. Appends its rules to the list, where they stay if it grows. The place of a fault is the part of the
-// policy that has it; it is the condition's expression if this takes more than is left.
+// policy that has it. It is the condition's expression if this takes more than is left.
 fn read_policy(
     list: &mut RuleList,
     name: &str,

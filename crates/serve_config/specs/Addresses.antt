@@ -16,7 +16,8 @@ use Rattle.serve_config.specs.declared.address.Address.TheVariants as addresses
 use Rattle.serve_config.specs.declared.address.ControlAddress.{ControlAddress}
 use Rattle.serve_config.specs.declared.address.ControlAddress.TheVariants as planes
 
--- a path of a Unix socket; Linux has 108 bytes for it and a NUL at its end (unix(7)), and it is made at a path of 6 more
+-- a path of a Unix socket. Linux has 108 bytes for it and a NUL at its end (unix(7)). The socket is made at a path of 6
+-- more
 abbrev pub IsUnixPath : List ℕ → Type 0
 IsUnixPath path = IsPath path × (length path ≤ 101)
 

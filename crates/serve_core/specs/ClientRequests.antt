@@ -78,8 +78,8 @@ pub record IsTurnedAway (old : CoreValue) (k : ℕ) (conn : ServerFacts) (new : 
   pub opens : Turns old (took (accepted k conn) (answered [] true)) opened
   pub ends : Turns opened (took (closed (Place k)) effect) new
 
--- what the core was given of a client whose connection is still open, and what that asked: none if the facts are outside
--- the limits, and then no head was given
+-- what the core was given of a client whose connection is still open, and what that asked. It asked nothing if the facts
+-- are outside the limits, and then no head was given
 abbrev pub IsGiven : CoreValue → ℕ → ServerFacts → List ℕ → Option (List AnsweredAsk) → CoreValue → Type 0
 IsGiven old k conn head None new = (FactsInLimits (conn_view conn) old.worker.core.client.config.limits → ⊥)
     × Turns old (took (accepted k conn) (answered [] true)) new
@@ -98,8 +98,8 @@ abbrev pub IsFirst : WorkerValue → List AnsweredAsk → AnsweredAsk → Type 0
 IsFirst w [] it = IsFaulty w Unfinished it
 IsFirst w (first ∷ others) it = it ≡ first
 
--- the answer to a client's request: the core's to exactly this head, on a connection with the facts of the client; or,
--- since these are outside the limits, 431
+-- the answer to a client's request: the core's to exactly this head, on a connection with the facts of the client. If
+-- these are outside the limits, it is 431
 pub data IsAnswered (old : CoreValue) (k : ℕ) (client : PartsValue) (http11 : Bool) (request : ClientRequest)
     (new : CoreValue) : Type 0 where
   judged : (answered_asks : List AnsweredAsk) (out : List ℕ) (after : Option FrontValue)
@@ -128,8 +128,8 @@ abbrev pub Refuses : CoreValue → Unjudged → FrontAnswer → CoreValue → Ty
 Refuses old unjudged answer new = (reply : Reply) × (answer ≡ answers.Unjudged unjudged reply)
     × (reply_view reply ≡ reply_without unjudged.case old.worker) × (new ≡ old)
 
--- the answer to the request of a front's head: the core's to the request of the client that the rule gives, or that of a
--- request for which the rule gives none
+-- the answer to the request of a front's head: the core's to the request of the client that the rule gives. If the rule
+-- gives none, the request is not judged, and the answer says so
 pub data AnswersHead (rule : RuleValue) (k : ℕ) (h : HeadValue) (facts : Facts) (old : CoreValue) (answer : FrontAnswer)
     (new : CoreValue) : Type 0 where
   judged : (client : PartsValue) (request : ClientRequest)
@@ -154,7 +154,7 @@ AreAskLines facts kept (asks.Judge r closes) lines = (h : HeadValue) × (rest : 
     × (r ≡ request_of_head h facts) × (lines ≡ lines_of h)
 AreAskLines facts kept (asks.Fault fault) lines = Unit {0}
 
--- the lines that a front tells of its next ask; any if it tells none
+-- the lines that a front reports of its next ask; any if it reports none
 abbrev pub AreToldLines : FrontValue → List Entry → Type 0
 AreToldLines front lines = (found : Option (List Entry)) × AreNextLines front found
     × ((some : List Entry) → found ≡ Some some → lines ≡ some)

@@ -35,7 +35,7 @@ abbrev pub framed : Ask → ReplyValue → ReplyValue
 framed (asks.Judge r closes) reply = record reply { closes = closes; is_head = bytes_eq r.method (codes "HEAD") }
 framed (asks.Fault fault) reply = record reply { closes = true; is_head = false }
 
--- the asks that a front takes, one after the other, each answered, and the answers as bytes
+-- the asks that a front takes, in order, each answered, and the answers as bytes
 abbrev pub AnswersAll : RuleValue → ℕ → LimitsValue → Facts → Kept → CoreValue → List FrontAnswer → List ℕ → Kept → CoreValue → Type 0
 AnswersAll rule k limits facts kept old [] out end new = (out ≡ []) × (end ≡ kept) × (new ≡ old)
 AnswersAll rule k limits facts kept old (answer ∷ answers) out end new =

@@ -1,4 +1,4 @@
--- The headline of a server behind front proxies, and of a server by its settings (this project's own).
+-- The headline of a server after front proxies, and of a server by its settings (this project's own).
 use Rattle.std.specs.Prelude.{◌≡◌, ◌<◌, ℕ, List, ◌++◌, Option, Some, None}
 use Rattle.ads.specs.Config.{ConfigValue}
 use Rattle.proxy_core.specs.Headline.{Headline}
@@ -23,12 +23,12 @@ pub record MappedHeadline (rule : RuleValue) (c : ConfigValue) (n : ℕ) (wire :
   pub orderly : IsOrderly wire
   -- what was sent on a stream since it opened, and after it what waits, is what was answered on it since then
   pub in_order : (s : Stream) → answered_at s turns ≡ sent_at s turns ++ waiting_at s turns
-  -- what is answered on a connection are the answers to the asks in its bytes: for each, the core's to the request of the
-  -- client that the rule gives, or that of a request for which the rule gives none
+  -- what is answered on a connection are the answers to the asks in its bytes. For each, that is the core's answer to the
+  -- request of the client that the rule gives. If the rule gives none, it is the answer to a request that is not judged
   pub fronts : FrontsValue
   pub run : FrontsRun rule turns fronts
-  -- the headline holds of the events of each place of the core, which are those of the clients' connections, with those
-  -- of the update stream, and of the core's answers to them
+  -- the headline holds of the events of each place of the core, with those of the update stream, and of the core's answers
+  -- to them. The events of a place are those of the clients' connections
   pub each : (k : ℕ) → k < n → Headline c (events_of (calls_at k (core_calls fronts.core.turns)))
       (outputs_of (calls_at k (core_calls fronts.core.turns)))
 

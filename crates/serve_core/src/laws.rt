@@ -1,4 +1,4 @@
-//! Laws of a worker under the loop, and of one behind front proxies.
+//! Laws of a worker under the loop, and of one after front proxies.
 ghost use Rattle.std.specs.Prelude.{◌≡◌, ◌≤◌, ℕ, Bool, List, [], codes, length};
 ghost use Rattle.attributes.specs.Conn.{Facts};
 ghost use Rattle.attributes.specs.Limits.{LimitsValue};
@@ -43,8 +43,8 @@ pub fn a_server_has_the_headline<N: Network<Conn>, O: Observer<Conn, WorkerServi
         ∥ ServerHeadline w.core.client.config (length w.core.conns) (N.wire server.now.board.parties.network) ∥₁ }
 {}
 
-/// At any time, whatever a server did, the headline holds of what is on its wire: by the requests as they were sent, or by
-/// those of the clients that a rule gives.
+/// At any time, whatever a server did, the headline holds of what is on its wire. It holds by the requests as they were
+/// sent, or by those of the clients that a rule gives.
 pub fn a_served_wire_has_the_headline<'m, N: Network<Conn>, O: Observer<Conn, Served<'m>>>(
     server: &Server<Conn, N, Served<'m>, O>,
 )

@@ -1,4 +1,4 @@
-//! The core behind front proxies, as a service of the loop.
+//! The core after front proxies, as a service of the loop.
 ghost use Rattle.std.specs.Prelude.{◌≡◌, [], ◌∷◌, IfOk};
 ghost use Rattle.serve_loop.specs.Events.{event_view};
 ghost use Rattle.serve_loop.specs.History.{answered, took};

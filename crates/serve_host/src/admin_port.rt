@@ -153,8 +153,8 @@ impl AdminPort {
     }
 }
 
-// Whose place is freed, of connections that were heard last at these times: none while a place is free, and else that of
-// the one that is silent for the longest time.
+// Whose place is freed, of connections that were heard last at these times. It is none while a place is free, and else
+// that of the one that is silent for the longest time.
 fn given_up(has_free: bool, heard: &[Option<u64>]) -> Option<usize>
     ensures free { has_free ≡ true → result ≡ None }
     ensures full { has_free ≡ false → IsEarliest heard.now result }

@@ -41,7 +41,7 @@ impl EndedServer {
     }
 }
 
-/// Serves with this configuration of the proxy and by these settings until the server is to end, and then until its
+/// Serves with this configuration of the proxy and by these settings until the server is to end. Then it serves until its
 /// connections have ended, for at most the drain time. These facts are known of every connection. The headline by these
 /// settings holds of all that happened on the wire. An error says why it could not begin.
 pub fn host(

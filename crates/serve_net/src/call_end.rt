@@ -49,7 +49,7 @@ fn code_name(code: u32) -> &'static str {
     }
 }
 
-// The greatest number of bytes of a control plane's message that is told.
+// How many bytes of a control plane's message are shown, at most.
 const MOST_SHOWN: usize = 256;
 
 /// The kind of error that the end of a call is.

@@ -211,7 +211,7 @@ impl GrpcStream {
         }
     }
 
-    // The error that the end of the call is, if it is over. Its words are told.
+    // The error that the end of the call is, if it is over. Its words are reported.
     fn end(&self) -> Option<io::Error> {
         if self.is_silent {
             self.tell(String::from_str(self.alloc, "no answer to a PING"));
@@ -222,15 +222,15 @@ impl GrpcStream {
         Some(io::Error::from(kind_of(end)))
     }
 
-    // Tells why the call ended. Nothing is told without memory.
+    // Reports why the call ended. Without memory it reports nothing.
     fn tell(&self, words: Result<String, AllocError>) {
         self.shared.end_words.set(words.ok());
     }
 }
 
 impl Read for GrpcStream {
-    /// The data of the call, after at most one read of the link. Fails with `Interrupted` if what came are no data, with
-    /// `WouldBlock` while the control plane does not take what answers it, and with the cause once the call is over.
+    /// The data of the call, after at most one read of the link. Fails with `Interrupted` if what came are no data, and with
+    /// `WouldBlock` while the control plane does not take what answers it. Fails with the cause once the call is over.
     fn read(&mut self, buf: &mut [u8]) -> io::Result<usize> {
         self.watch();
         self.write_out()?;

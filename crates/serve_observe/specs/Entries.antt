@@ -69,8 +69,8 @@ recorded service is_taken e = if is_taken || is_closing e then event_by service 
 abbrev pub client_events : ℕ → ServerFacts → List ℕ → List ServerEvent
 client_events k conn head = accepted k conn ∷ received (Place k) head ∷ closed (Place k) ∷ []
 
--- what an entry says beside its event: the number of a connection that opens, whether the core has it as fresh, and how
--- the core judged the response that bytes of the update stream complete
+-- what an entry says beside its event: the number of a connection that opens, or whether the core has it as fresh. If
+-- bytes of the update stream complete a response, the entry says how the core judged it
 abbrev pub Says : WorkerService → ℕ → Entry → Type 0
 Says core number (entries.Opened k given conn) = given ≡ number
 Says core number (entries.Received k bytes is_fresh) = IsTrue is_fresh ↔ IsFresh (front_at (worker_view core.worker).core k)

@@ -297,8 +297,8 @@ impl<'r, R: Clock, F: LogFiles + Drop> Observers<'r, R, F> {
         count_judgement(&mut self.admin.metrics, &judged);
     }
 
-    // How long bytes of the update stream took, in microseconds: since the last event of that stream was seen, or since
-    // this time in milliseconds, at which the turn began.
+    // How long bytes of the update stream took, in microseconds. That is since the last event of that stream was seen, or
+    // since this time in milliseconds, at which the turn began.
     fn passed(&self, event: &Event<'_, Conn>, now: u64) -> u64 {
         match event {
             Event::Received(Stream::Updates, _) => {

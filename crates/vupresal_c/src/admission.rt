@@ -20,8 +20,9 @@ use std::sync::Arc;
 
 /// Admits the message of an HTTP RBAC filter (`envoy.extensions.filters.http.rbac.v3.RBAC`) and puts the filter into the
 /// handle, instead of what it held. The budget is 1 to 100,000,000 steps, and the visits of the bounds. The status is 0,
-/// the number of the refusal, or -2 for limits or a budget out of range. If it is not 0, the handle is as before. The place of a refusal goes into the
-/// room as UTF-8 with a zero at its end; it is empty if no part can be named, and after an admission.
+/// the number of the refusal, or -2 for limits or a budget out of range. If it is not 0, the handle is as before. The place
+/// of a refusal goes into the room as UTF-8 with a zero at its end. It is empty if no part can be named, and after an
+/// admission.
 #[unsafe(no_mangle)]
 pub extern "C" fn vupresal_filter_admit(
     alloc: Global,

@@ -15,7 +15,7 @@ use rbac_policy::{Admitted, Verdict};
 use std::alloc::Global;
 
 /// Gives the filter's decision on the request of an HTTP/1 head, which is whole. The status is 0; 400, 431 or 501 for a
-/// head or facts at fault; 19 or 20 without an answer; or -1 for an empty handle. It is -2 for a port or an address out of
+/// head or facts at fault; or 19 or 20 without an answer. It is -1 for an empty handle, and -2 for a port or an address out of
 /// range. If it is not 0, the decision refuses.
 #[unsafe(no_mangle)]
 pub extern "C" fn vupresal_filter_decide_head(

@@ -129,7 +129,7 @@ IsBody m ks p walked gathered c s e = (each : List ValueType)
     gathered c s
     × IsFound m ((p.accu_var, gathered) ∷ ks) p.result e
 
--- the range has no elements, and no path is given yet; or the condition, the step or the result has a fault, or is of a
+-- the range has no elements, and no path is given yet. Or the condition, the step or the result has a fault, or is of a
 -- wrong type
 abbrev pub BodyFault : Maps → Kinds → LoopParts → (walked gathered : ValueType) → Path → Refusal → Type 0
 BodyFault m ks p walked gathered path e =

@@ -1,5 +1,5 @@
--- The results of measuring an expression: its size, and what its cost leaves of the budget and its visits leave
--- of theirs; or a refusal if one of the two is too small.
+-- The results of measuring an expression: its size, what its cost leaves of the budget, and what its visits leave of
+-- theirs. The result is a refusal if one of the two is too small.
 use Rattle.std.specs.Prelude.{ℕ, ◌≡◌, ◌<◌, ◌+◌, ◌-◌, ◌⊎◌, List, [], ◌∷◌, ◌++◌}
 use Rattle.proto_wire.specs.declared.refusal.Refusal.{Refusal}
 use Rattle.proto_wire.specs.declared.refusal.Refusal.TheVariants.{TooCostly, TooLarge}
