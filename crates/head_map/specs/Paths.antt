@@ -1,4 +1,5 @@
--- Ten forms of paths that an application could read as another path; there are more (RFC 3986, sections 2.1, 3.3 and 5.2.4; RFC 9110, section 4.2.3).
+-- Ten forms of paths that an application could read as another path. There are more (RFC 3986, sections 2.1, 3.3 and
+-- 5.2.4; RFC 9110, section 4.2.3).
 use Rattle.std.specs.Prelude.{◌≡◌, ℕ, ◌⊎◌, Bool, ◌||◌, ◌==◌, nat_lt, IsTrue, List, [], ◌∷◌, ◌++◌, codes}
 use Rattle.std.specs.List.{before_first, list_any}
 use Rattle.std.specs.Str.Iter.{HasSubslice}

@@ -18,7 +18,7 @@ use Rattle.rbac_match.specs.declared.member.Member.{Member}
 use Rattle.rbac_match.specs.declared.member.Member.TheVariants.{And, Or, Any, Not, Leaf}
 use Rattle.rbac_match.specs.declared.rule.Side.{Side}
 
--- a part of a rule: a rule or a set of rules, which may have this many levels, with its payloads; or the run
+-- a part of a rule: a rule or a set of rules with its payloads, which may have this many levels. Or it is the run
 -- of `any` or of a test of one fact, whose fields have this number
 pub data Part : Type 0 where
   rule : (depth : ℕ) → List (List ℕ) → Part
@@ -47,7 +47,7 @@ IsAt [] n position child = ⊥
 IsAt (f ∷ fs) n zero child = cond (f.number == n) (len_in f.payload) None ≡ Some child
 IsAt (f ∷ fs) n (suc position) child = IsAt fs n position child
 
--- the step leads from a part to this part in it: from a rule to its last member, whose fields merge, and from
+-- the step leads from a part to this part in it. It leads from a rule to its last member, whose fields merge, and from
 -- a set to one of its rules. Which field of a test a step names is not said
 abbrev pub StepTo : Side → Part → Step → Part → Type 0
 StepTo side (rule zero parts) s q = ⊥

@@ -1,5 +1,5 @@
-//! Laws of the definitions: what each test means, that payloads are exactly one HeaderMatcher or have a fault, and
-//! what a place of a fault means.
+//! Laws of the definitions. They say what each test means, what a place of a fault means, and that payloads are
+//! exactly one HeaderMatcher or have a fault.
 
 ghost use Rattle.std.specs.Prelude.{◌≡◌, ◌≢◌, ◌↔◌, ◌⊎◌, ◌<◌, ◌≤◌, ◌≤ℤ◌, ◌<ℤ◌, ◌+◌, ◌==◌, ◌||◌, ℕ, ℤ, pos, neg_ℤ, FitsSigned, Bool, true, false, not, List, [], ◌∷◌, ◌++◌, Option, Some, None, IsTrue, codes, take};
 ghost use Rattle.std.specs.Char.{to_ascii_lowercase};
