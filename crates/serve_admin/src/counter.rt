@@ -1,9 +1,13 @@
 //! A row of counters.
+ghost use Rattle.std.specs.Prelude.{◌≡◌};
+ghost use Rattle.serve_admin.specs.Counting.{counted};
 
 /// One more in a place, if the row has it. A counter at its greatest value stays there.
-pub(crate) fn count_in(counters: &mut [u64], place: usize) {
-    if let Some(counter) = counters.get_mut(place) {
-        *counter = counter.saturating_add(1);
+pub(crate) fn count_in(counters: &mut [u64], place: usize)
+    ensures { counters.new ≡ counted counters.old place }
+{
+    if place < counters.len() {
+        counters[place] = counters[place].saturating_add(1);
     }
 }
 

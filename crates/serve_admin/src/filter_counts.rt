@@ -1,4 +1,6 @@
 //! What is counted for one filter.
+ghost use Rattle.std.specs.Prelude.{◌≡◌, []};
+ghost use Rattle.serve_admin.specs.Counting.{counted};
 
 use crate::counter::count_in;
 use crate::histogram::Histogram;
@@ -13,7 +15,9 @@ pub(crate) struct FilterCounts {
 
 impl FilterCounts {
     /// Of a filter without policies.
-    pub(crate) fn new(alloc: Global) -> FilterCounts {
+    pub(crate) fn new(alloc: Global) -> FilterCounts
+        ensures { result.matches.items ≡ [] }
+    {
         FilterCounts {
             matches: Vec::new(alloc),
             steps: Histogram::new(),
@@ -21,17 +25,24 @@ impl FilterCounts {
     }
 
     /// Counts a match, if the filter has a policy with this number.
-    pub(crate) fn matched(&mut self, policy: usize) {
+    pub(crate) fn matched(&mut self, policy: usize)
+        ensures matches { self.new.matches.items ≡ counted self.old.matches.items policy }
+        ensures steps { self.new.steps ≡ self.old.steps }
+    {
         count_in(&mut self.matches, policy);
     }
 
     /// How often each policy matched.
-    pub(crate) fn matches(&self) -> &[u64] {
+    pub(crate) fn matches(&self) -> &[u64]
+        ensures { result.now ≡ self.now.matches.items }
+    {
         &self.matches
     }
 
     /// Replaces the counters of the policies.
-    pub(crate) fn set_matches(&mut self, matches: Vec<u64>) {
+    pub(crate) fn set_matches(&mut self, matches: Vec<u64>)
+        ensures { self.new ≡ record self.old { matches = matches } }
+    {
         self.matches = matches;
     }
 }

@@ -1,5 +1,6 @@
 //! Numbers counted by their powers of ten.
-ghost use Rattle.std.specs.Prelude.{◌≡◌, ◌≤◌, ◌<◌, ◌+◌, ◌-◌, ◌^◌, min};
+ghost use Rattle.std.specs.Prelude.{◌≡◌, ◌≤◌, ◌<◌, ◌-◌, ◌^◌, max, replicate};
+ghost use Rattle.serve_admin.specs.Counting.{bucket, counted, raised};
 
 use crate::counter::{count_in, total};
 
@@ -27,7 +28,7 @@ pub struct Histogram {
 impl Histogram {
     /// Of no number.
     pub(crate) fn new() -> Histogram
-        ensures { (result.sum ≡ 0) × (result.greatest ≡ 0) }
+        ensures { result ≡ record { counts = replicate 10 0; sum = 0; greatest = 0 } }
     {
         Histogram {
             counts: [0; 10],
@@ -38,7 +39,9 @@ impl Histogram {
 
     /// Counts a number.
     pub(crate) fn add(&mut self, number: u64)
-        ensures { self.new.sum ≡ min (self.old.sum + number) (2 ^ 64 - 1) }
+        ensures counts { self.new.counts ≡ counted self.old.counts (bucket number) }
+        ensures sum { self.new.sum ≡ raised self.old.sum number }
+        ensures greatest { self.new.greatest ≡ max self.old.greatest number }
     {
         count_in(&mut self.counts, bucket_of(number));
         self.sum = self.sum.saturating_add(number);
@@ -51,7 +54,9 @@ impl Histogram {
     }
 
     /// How many numbers fell into each bucket.
-    pub(crate) fn counts(&self) -> &[u64] {
+    pub(crate) fn counts(&self) -> &[u64]
+        ensures { result.now ≡ self.now.counts }
+    {
         &self.counts
     }
 
@@ -73,6 +78,7 @@ impl Histogram {
 /// The bucket of a number: the first whose limit is not below it. The limit of bucket k is 10 to the power of k, but
 /// the bucket 9 has none.
 pub fn bucket_of(number: u64) -> usize
+    ensures place { result ≡ bucket number }
     ensures range { result ≤ 9 }
     ensures fits { result < 9 → number ≤ 10 ^ result }
     ensures first { 0 < result → 10 ^ (result - 1) < number }
