@@ -4,4 +4,4 @@ import sys
 
 BENCH = pathlib.Path(__file__).resolve().parent.parent
 # messages and policies of the benchmark, and what runs over sockets needs
-sys.path[1:1] = [str(BENCH), str(BENCH.parent / "scripts")]
+sys.path[1:1] = [str(BENCH), str(BENCH.parent / "scripts/serve")]

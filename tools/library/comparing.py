@@ -12,14 +12,14 @@ from pathlib import Path
 from typing import Dict, Iterator, List, NamedTuple, Tuple
 
 TOP = Path(__file__).resolve().parent.parent.parent
-sys.path[1:1] = [str(TOP / "scripts"), str(TOP / "bench")]
+sys.path[1:1] = [str(TOP / "scripts/gate"), str(TOP / "bench")]
 import messages as wire  # noqa: E402
 from expressions import checked_expression, expression_of  # noqa: E402
 
 
 def script(name: str):
     """The module of a script that has no suffix."""
-    loader = importlib.machinery.SourceFileLoader(name, str(TOP / "scripts" / name))
+    loader = importlib.machinery.SourceFileLoader(name, str(TOP / "scripts/gate" / name))
     module = importlib.util.module_from_spec(importlib.util.spec_from_loader(name, loader))
     sys.modules[name] = module
     loader.exec_module(module)

@@ -47,7 +47,7 @@ def on_aarch64(trials):
     if trials.is_of_gate:
         return
     if not (library / "lib" / "libvupresal.a").exists():
-        trials.skip("aarch64", "not built: tools/library/build --unproved --target aarch64")
+        trials.leave("aarch64", "not built: tools/library/build --unproved --target aarch64")
         return
     if trials.misses("aarch64", "aarch64-linux-gnu-gcc", "qemu-aarch64"):
         return
@@ -70,7 +70,7 @@ def in_wasm(trials):
     if trials.is_of_gate:
         return
     if not module.exists():
-        trials.skip("wasm64", "not built: tools/library/build --unproved --target wasm64")
+        trials.leave("wasm64", "not built: tools/library/build --unproved --target wasm64")
         return
     node = [shutil.which("node") or "node", "--experimental-wasm-memory64", "--no-warnings"]
     if trials.misses("wasm64", "node") or subprocess.run([*node, "-e", ""], capture_output=True).returncode:

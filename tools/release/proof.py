@@ -3,7 +3,7 @@ import hashlib
 import re
 import subprocess
 
-# what `.ci/run` prints, below scripts/gate_times --stamp or by itself
+# what `.ci/run` prints, below scripts/measure/gate_times --stamp or by itself
 STAMP = r"(?:[\d.]+ )?"
 PROVED = re.compile(rf"(?m)^{STAMP}rt: (\w+) proved$")
 TIME = re.compile(rf"(?m)^{STAMP}time: proof (\w+) ([\d.]+) s ")
@@ -13,10 +13,10 @@ COUNTS = re.compile(rf"(?m)^{STAMP}(\d+ passed, 0 failed)$")
 CHECK = """How to check that a program is the one that was proved
 
 1. The program: `sha256sum /usr/bin/rbacd` prints the sum in the line `program` above.
-2. The sources: in a checkout of the commit above, `scripts/made_of` prints the lines `sources` and `kit` above. It needs the kit
+2. The sources: in a checkout of the commit above, `scripts/gate/made_of` prints the lines `sources` and `kit` above. It needs the kit
    on the PATH for the second one. Each .rt and .antt file of the program's crates counts, by name and bytes.
 3. The proof: `.ci/run` in that checkout, with that kit, proves these sources, and builds the program from what it proved.
-   `scripts/made_of --is crates/rbacd/out/rbacd` then says with status 0 that the program is the one that was built so.
+   `scripts/gate/made_of --is crates/rbacd/out/rbacd` then says with status 0 that the program is the one that was built so.
 """
 UNPROVED = """This release is NOT PROVED: nothing of it was checked by the prover. Its program and its library have run-time checks instead,
 and are slower. Their versions say `not proved`.
@@ -32,8 +32,8 @@ def sum_of(file):
 
 
 def made_of(top, kind=()):
-    """What scripts/made_of prints: the lines `sources SUM` and `kit NAME`."""
-    return subprocess.run([top / "scripts/made_of", *kind], check=True, capture_output=True, text=True).stdout.splitlines()
+    """What scripts/gate/made_of prints: the lines `sources SUM` and `kit NAME`."""
+    return subprocess.run([top / "scripts/gate/made_of", *kind], check=True, capture_output=True, text=True).stdout.splitlines()
 
 
 class Gate:

@@ -1,11 +1,11 @@
-/* Refuses each growth of memory of each call in turn: refused FILTER RESPONSE, behind the library of scripts/heap.c (LD_PRELOAD).
+/* Refuses each growth of memory of each call in turn: refused FILTER RESPONSE, behind the library of scripts/measure/heap.c (LD_PRELOAD).
    FILTER admits `GET /` alone, RESPONSE is a frame with a filter `f` that admits everything.
 
    A call whose growth was refused has the status 19, or its own answer; then the handle is as before. Prints how many growths were
    refused for each call; status 1 where a call met fewer than are told here. */
 #include "check.h"
 
-/* What scripts/heap.c obeys. */
+/* What scripts/measure/heap.c obeys. */
 #define COMMANDS 0x5eed00000000ul
 
 static void *(*volatile grow)(size_t) = malloc;
@@ -165,7 +165,7 @@ int main(int count, char **words) {
   frame_length = message_of(words[2], frame, sizeof frame);
   refuse(1);
   free(grow(16));
-  if (!was_refused()) return fputs("refused: the library of scripts/heap.c is not there\n", stderr), 2;
+  if (!was_refused()) return fputs("refused: the library of scripts/measure/heap.c is not there\n", stderr), 2;
   try_filter("admit", admit, 10);
   try_filter("refused", refuse_place, 5);
   try_filter("decide_head", by_head, 5);
