@@ -1,0 +1,4 @@
+-- Definitions that only clauses of private functions and proofs use.
+pub mod Ports
+pub mod Headers
+pub mod Contexts
