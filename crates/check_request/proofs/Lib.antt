@@ -1,3 +1,10 @@
 pub mod Exits
 pub mod Lists
 pub mod Lookups
+pub mod Addresses
+pub mod Unique
+pub mod Disjoint
+pub mod Total
+pub mod Spelled
+pub mod AnswerBack
+pub mod AnswerUnique

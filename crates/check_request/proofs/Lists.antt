@@ -1,28 +1,9 @@
--- Lists that grow by one.
-use Rattle.std.proofs.Common.{◌≡◌, ◌≢◌, ℕ, zero, suc, ◌+◌, ◌-◌, ◌<◌, Some, Bool, true, false, cond, List, [], ◌∷◌, ◌++◌, length, map, take, filter, get_or, ap, refl, sym, ◌∙◌, arith}
+-- Lists in the code and in the definitions.
+use Rattle.std.proofs.Common.{◌≡◌, ◌≢◌, ℕ, zero, suc, ◌-◌, Some, Bool, true, false, cond, List, [], ◌∷◌, length, map, filter, ap, refl, sym, ◌∙◌, arith}
 use Rattle.std.specs.Borrow.{Bor}
-use Rattle.std.specs.List.{AllZip, slice_get}
-use Rattle.std.proofs.lemmas.List.{map_more, map-append}
+use Rattle.std.specs.List.{slice_get}
 use Rattle.proto_wire.specs.Merge.{parts_view}
 use Rattle.check_request.specs.Lines.{last_payload}
-
--- one pair more
-pub zip_push : {A B : Type 0} (R : A → B → Type 0) (xs : List A) (ys : List B) (x : A) (y : B)
-    → AllZip R xs ys → R x y → AllZip R (xs ++ x ∷ []) (ys ++ y ∷ [])
-zip_push R [] [] x y all more = (more, tt)
-zip_push R [] (b ∷ ys) x y all more = absurd all
-zip_push R (a ∷ xs) [] x y all more = absurd all
-zip_push R (a ∷ xs) (b ∷ ys) x y (first, all) more = (first, zip_push R xs ys x y all more)
-
--- one value more, read from the payload at this place
-pub zip_more : {A M : Type 0} (R : List ℕ → M → Type 0) (view : A → M) (slices : List (Bor (List ℕ)))
-    (i : ℕ) (d : Bor (List ℕ)) (items now : List A) (x : A)
-    → i < length slices → AllZip R (parts_view (take i slices)) (map view items)
-    → R (get_or slices i d).now (view x) → now ≡ items ++ x ∷ []
-    → AllZip R (parts_view (take (i + 1) slices)) (map view now)
-zip_more R view slices i d items now x within so_far is pushed =
-    rw (pushed, map-append view items (x ∷ []), map_more (λ (s : Bor (List ℕ)). s.now) slices i d within)
-    (zip_push R (parts_view (take i slices)) (map view items) (get_or slices i d).now (view x) so_far is)
 
 -- a test of the views keeps the same elements
 pub filter_view : {A M : Type 0} (view : A → M) (test : M → Bool) (xs : List A)

@@ -1,7 +1,10 @@
 -- Why bytes are no CheckRequest that is read, and which part of it has the fault.
 use Rattle.std.specs.Prelude.{◌≡◌, ◌≢◌, ◌⊎◌, ℕ, ◌≤◌, ◌^◌, false, Some, None, List, [], ◌∷◌, codes, slice_get}
 use Rattle.attributes.specs.Address.{IsIpText}
+use Rattle.attributes.specs.Limits.{LimitsValue}
 use Rattle.attributes.specs.declared.address.Ip.{Ip}
+use Rattle.http_front.specs.Parts.{PartsFault as RequestFault}
+use Rattle.http_front.specs.declared.fault.HeadFault.{HeadFault}
 use Rattle.proto_wire.specs.Fields.{Wire}
 use Rattle.proto_wire.specs.Maps.{Entry, AreEntries, SomeEntryFault, text}
 use Rattle.proto_wire.specs.Merge.{Merges}
@@ -10,12 +13,13 @@ use Rattle.proto_wire.specs.Oneof.{last_number, member_run}
 use Rattle.proto_wire.specs.Values.{StringFault, Utf8Fault, bytes_at, payloads, uint32_at}
 use Rattle.proto_wire.specs.declared.refusal.Refusal.{Refusal}
 use Rattle.proto_wire.specs.declared.refusal.Refusal.TheVariants.{Memory, Missing, OutOfRange}
-use Rattle.check_request.specs.Check.{is_scheme, protocol_named, value_at}
+use Rattle.check_request.specs.Check.{CheckValue, IsCheck, is_scheme, protocol_named, value_at}
 use Rattle.check_request.specs.Lines.{last_payload}
 use Rattle.check_request.specs.Numbers.{Inner, address_field, address_keys, check_field, context_field, http_field, map_field, number_of, peer_field, port_keys, request_field, session_field, socket_field}
 use Rattle.check_request.specs.declared.part.End.{End}
 use Rattle.check_request.specs.declared.part.CheckPart.{CheckPart}
 use Rattle.check_request.specs.declared.part.CheckPart.TheVariants.{Whole, Attributes, Peer, Address, Host, Port, Principal, Request, Http, Protocol, Scheme, Headers, HeaderMap, Header, Session, ServerName, Extensions, Filters}
+use Rattle.check_request.specs.declared.part.PrincipalName.{PrincipalName}
 use Rattle.check_request.specs.declared.fault.CheckFault.{CheckFault}
 
 -- out of memory, or this fault of this part
@@ -104,3 +108,9 @@ pub data HasFault (bytes : List ℕ) (part : CheckPart) (e : Refusal) : Type 0 w
       → PartsFault (payloads check_field.attributes check) e → HasFault bytes part e
   in_context : (check context : List Wire) → Merges (bytes ∷ []) check
       → Inner check_field.attributes check context → ContextFault context part e → HasFault bytes part e
+
+-- the bytes mean no request: they have a fault, or the parts that they ask have one
+pub data CheckFails (name : PrincipalName) (limits : LimitsValue) (bytes : List ℕ) : Type 0 where
+  unread : (part : CheckPart) (e : Refusal) → HasFault bytes part e → CheckFails name limits bytes
+  refused : (c : CheckValue) (fault : HeadFault) → IsCheck name bytes c
+      → RequestFault c.parts limits c.facts fault → CheckFails name limits bytes

@@ -3,6 +3,7 @@ pub mod Sockets
 pub mod Lines
 pub mod Facts
 pub mod Check
+pub mod Answers
 pub mod Faults
 pub mod View
 pub mod private

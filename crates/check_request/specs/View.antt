@@ -2,10 +2,12 @@
 use Rattle.std.specs.Prelude.{ℕ, Option, option_map, List, map}
 use Rattle.std.specs.Borrow.{Bor}
 use Rattle.attributes.specs.Conn.{conn_view}
+use Rattle.attributes.specs.Headers.{Entry as Line}
 use Rattle.http_front.specs.Parts.{field_view}
 use Rattle.check_request.specs.Check.{CheckValue}
 use Rattle.check_request.specs.Facts.{KnownValue}
 use Rattle.check_request.specs.Sockets.{SocketValue}
+use Rattle.check_request.specs.declared.answer.SetHeader.{SetHeader}
 use Rattle.check_request.specs.declared.check.Check.{Check}
 use Rattle.check_request.specs.declared.known.Known.{Known}
 use Rattle.check_request.specs.declared.socket.Socket.{Socket}
@@ -40,3 +42,7 @@ check_view c = record {
   facts = conn_view c.conn;
   filters = text_view c.filters;
 }
+
+-- a header that is set
+abbrev pub set_view : SetHeader → Line
+set_view header = (header.name.now, header.value.now)

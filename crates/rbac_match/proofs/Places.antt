@@ -133,14 +133,11 @@ module _ (side : Side) where
       rw (l.1) (inr (here_place side p l.0 (ap (λ (path : Path). path.steps) l.2.1) (rw (l.2.0) bad)))
 
   -- the fault of a leaf's reader
-  pub exit_leaf : (kind : LeafKind) (n : ℕ) (run : List Wire) {T : Type 0} (r : Result T Fault) (e : Fault)
-      → IsErrAnd r (λ y. y ≡ e) → FaultOr (LeafFault kind n run) e → IfErr r (PlacedOr side (leaf kind n run))
-  exit_leaf kind n run r e left fault =
-      let l = err_from_is_err_and r left in
-      rw (l.1, l.2) (elim fault [
-        | inl memory ↦ inl memory
-        | inr bad ↦ inr (leaf_place side kind n run (path_of e.place).steps e.refusal bad)
-      ])
+  pub leaf_placed : (kind : LeafKind) (n : ℕ) (run : List Wire) {T : Type 0} (r : Result T Fault)
+      → IfErr r (FaultOr (LeafFault kind n run)) → IfErr r (PlacedOr side (leaf kind n run))
+  leaf_placed kind n run (Ok x) fault = tt
+  leaf_placed kind n run (Err e) (inl memory) = inl memory
+  leaf_placed kind n run (Err e) (inr bad) = inr (leaf_place side kind n run (path_of e.place).steps e.refusal bad)
 
   -- one step further out
   pub step_out : (p q : Part) (n i : ℕ) {T : Type 0} (r s : Result T Fault) → Placed n i r s

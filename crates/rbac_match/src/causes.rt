@@ -13,24 +13,25 @@ use crate::list::{Joint, Node, RuleList, Rules, cut};
 use crate::matching::{all_match, node_matches, some_match};
 use attributes::Request;
 use std::alloc::{AllocError, Global};
+use std::fmt::{self, Debug, Formatter};
 use std::marker::Model;
 
 /// A step from a rule to one of the rules that it joins: how it joins them, and the index of that one.
-#[derive(Clone, Copy, Debug)]
+#[derive(Clone, Copy)]
 pub struct Step {
     pub(crate) joint: Joint,
     pub(crate) index: usize,
 }
 
 /// A leaf that decides: the steps to it, and the place of its test. Without a place, it matches every request.
-#[derive(Debug, Drop)]
+#[derive(Drop)]
 pub(crate) struct Cause {
     pub(crate) path: Vec<Step>,
     pub(crate) place: Option<u32>,
 }
 
 /// The leaves that decide whether rules match a request, in order.
-#[derive(Debug, Drop)]
+#[derive(Drop)]
 pub struct Causes<'a> {
     pub(crate) leaves: &'a Leaves,
     pub(crate) found: Vec<Cause>,
@@ -44,6 +45,12 @@ impl<'a> Model for Causes<'a> {
     ghost Value = { List CauseValue };
 
     ghost view = { λ c. causes_in c.leaves.now c.found.items };
+}
+
+impl Debug for Causes<'_> {
+    fn fmt<W: fmt::Write>(&self, f: &mut Formatter<W>) -> fmt::Result {
+        f.debug_struct("Causes").finish_non_exhaustive()
+    }
 }
 
 // Where causes are searched, for which request, and how many are found at most.

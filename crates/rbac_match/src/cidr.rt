@@ -21,7 +21,7 @@ use proto_wire::{
 use std::alloc::Global;
 
 /// The address of a request that a rule tests.
-#[derive(Clone, Copy, PartialEq, Eq, Debug)]
+#[derive(Clone, Copy)]
 pub enum AddressSource {
     /// The address that the connection goes to: a permission's `destination_ip`.
     Destination,

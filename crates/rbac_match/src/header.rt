@@ -21,7 +21,7 @@ use std::alloc::Global;
 use std::marker::Model;
 
 /// What a test requires of a header.
-#[derive(Debug, Drop)]
+#[derive(Drop)]
 pub enum Specifier<'a> {
     /// The header is present if `true`, and missing if `false`.
     Present(bool),
@@ -32,7 +32,7 @@ pub enum Specifier<'a> {
 }
 
 /// A test of a request's header, as a message has it. The case of letters in its name does not count.
-#[derive(Debug, Drop)]
+#[derive(Drop)]
 pub struct HeaderMatcher<'a> {
     pub(crate) name: &'a str,
     pub(crate) specifier: Specifier<'a>,
@@ -55,7 +55,7 @@ impl<'a> Model for HeaderMatcher<'a> {
 }
 
 /// A supported member of the oneof, by the kind of its test.
-#[derive(Clone, Copy, PartialEq, Eq, Debug)]
+#[derive(Clone, Copy)]
 pub(crate) enum HeaderMember {
     /// `exact_match`, `prefix_match`, `suffix_match` or `contains_match`
     Text(Pattern),

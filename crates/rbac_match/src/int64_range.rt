@@ -12,7 +12,7 @@ use proto_wire::{Fault, int64_at, read_message_at};
 use std::alloc::Global;
 
 /// The numbers from `start` on that are below `end`; none if `start` is not below `end`.
-#[derive(Clone, Copy, PartialEq, Eq, Debug)]
+#[derive(Clone, Copy)]
 pub struct Int64Range {
     pub(crate) start: i64,
     pub(crate) end: i64,

@@ -24,7 +24,7 @@ use std::alloc::{AllocError, Global};
 use std::marker::Model;
 
 /// The header of a test: its name in lower case, and the two flags of its HeaderMatcher.
-#[derive(Clone, Copy, Debug)]
+#[derive(Clone, Copy)]
 pub(crate) struct NameLeaf {
     pub(crate) name: Span,
     pub(crate) invert_match: bool,
@@ -32,7 +32,7 @@ pub(crate) struct NameLeaf {
 }
 
 /// A test of one fact of a request; its texts are in the pool.
-#[derive(Clone, Copy, Debug)]
+#[derive(Clone, Copy)]
 pub(crate) enum Leaf {
     /// The header is present if `true`, and missing if `false`.
     Present(NameLeaf, bool),
@@ -57,7 +57,7 @@ pub(crate) enum Leaf {
 }
 
 /// Tests; their value is the list of their matchers.
-#[derive(Debug, Drop)]
+#[derive(Drop)]
 pub(crate) struct Leaves {
     leaves: Vec<Leaf>,
     pool: Pool,

@@ -9,10 +9,11 @@ use crate::leaves::Leaves;
 use crate::matcher::Matcher;
 use crate::search::position;
 use std::alloc::{AllocError, Global};
+use std::fmt::{self, Debug, Formatter};
 use std::marker::Model;
 
 /// How a rule joins the rules in it.
-#[derive(Clone, Copy, PartialEq, Eq, Debug)]
+#[derive(Clone, Copy, PartialEq, Eq)]
 pub enum Joint {
     /// It matches if each rule in it matches.
     And,
@@ -23,7 +24,7 @@ pub enum Joint {
 }
 
 /// A rule, or the head of a rule that has others in it.
-#[derive(Clone, Copy, Debug)]
+#[derive(Clone, Copy)]
 pub(crate) enum Node {
     /// Matches every request.
     Any,
@@ -55,7 +56,7 @@ pub struct Rules {
 
 /// The rules of a filter, in a list to which readers append. Its value is the list of its tokens. A rule's
 /// own token says how it joins the rules in it, and how many tokens they take. Their tokens follow it.
-#[derive(Debug, Drop)]
+#[derive(Drop)]
 pub struct RuleList {
     nodes: Vec<Node>,
     leaves: Leaves,
@@ -71,6 +72,12 @@ impl Model for RuleList {
     ghost view = { λ s. tokens_in s.leaves s.nodes.items };
 
     ghost invariant = { λ s. HasLeaves (length s.leaves) s.nodes.items };
+}
+
+impl Debug for RuleList {
+    fn fmt<W: fmt::Write>(&self, f: &mut Formatter<W>) -> fmt::Result {
+        f.debug_struct("RuleList").finish_non_exhaustive()
+    }
 }
 
 impl RuleList {

@@ -8,7 +8,7 @@ use attributes::Cidr;
 
 /// A test of one fact of a request, as a message has it. The reader refuses every fault, so a test cannot
 /// fail.
-#[derive(Debug, Drop)]
+#[derive(Drop)]
 pub enum Matcher<'a> {
     /// A header of the request passes.
     Header(HeaderMatcher<'a>),

@@ -14,7 +14,7 @@ use crate::rule::Side;
 use proto_wire::{Fault, Field, Refusal};
 
 /// A supported member of the oneof.
-#[derive(Clone, Copy, PartialEq, Eq, Debug)]
+#[derive(Clone, Copy)]
 pub(crate) enum Member {
     /// `and_rules` or `and_ids`
     And,
@@ -29,7 +29,7 @@ pub(crate) enum Member {
 }
 
 /// The kind of a test of one fact, by its member of the oneof.
-#[derive(Clone, Copy, PartialEq, Eq, Debug)]
+#[derive(Clone, Copy)]
 pub(crate) enum LeafKind {
     /// `header`
     Header,
@@ -48,7 +48,7 @@ pub(crate) enum LeafKind {
 }
 
 /// The last member of a rule, which is the one that counts.
-#[derive(Clone, Copy, Debug)]
+#[derive(Clone, Copy)]
 pub(crate) struct LastMember {
     pub member: Member,
     pub number: u32,

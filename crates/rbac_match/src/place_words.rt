@@ -10,10 +10,11 @@ use crate::read::{RULE_DEPTH, read_rule_at};
 use crate::rule::Side;
 use crate::{header, text};
 use proto_wire::{
-    Fault, MOST_STEPS, Payloads, Place, Refusal, Step, len_of, payloads_of, read_message,
+    Fault, Field, MOST_STEPS, Payloads, Place, Refusal, Step, len_of, payloads_of, read_message,
     read_parts,
 };
 use std::alloc::Global;
+use std::fmt::Write;
 
 // What a field holds: a message in a rule, the rule itself, or no message.
 #[derive(Clone, Copy)]
@@ -46,17 +47,29 @@ pub fn path_in_rule(alloc: Global, side: Side, rule: &[u8], refusal: Refusal) ->
         parts: one_payload(alloc, rule)?,
         depth: RULE_DEPTH,
     };
+    add_path(alloc, side, &mut inner, refusal, &mut path)?;
+    Some(path)
+}
+
+// Adds the path from this rule to the part of its message that has the fault. At its end the rule may be one inside
+// of the first.
+fn add_path(
+    alloc: Global,
+    side: Side,
+    inner: &mut Inner<'_>,
+    refusal: Refusal,
+    path: &mut String,
+) -> Option<()> {
     for _ in 0..RULE_DEPTH {
-        inner = past_nots(alloc, side, inner, &mut path)?;
-        let fault = fault_of_rule(alloc, side, &inner)?;
+        to_rule_below_nots(alloc, side, inner, path)?;
+        let fault = fault_of_rule(alloc, side, inner)?;
         if fault.refusal != refusal {
             return None;
         }
         if !fault.place.is_cut_short() {
-            add_place(alloc, side, &fault, 0, &mut path)?;
-            return Some(path);
+            return add_place(side, &fault, 0, path);
         }
-        inner = last_rule(alloc, side, inner, &fault, &mut path)?;
+        to_last_rule(alloc, side, inner, &fault, path)?;
     }
     None
 }
@@ -65,7 +78,7 @@ pub fn path_in_rule(alloc: Global, side: Side, rule: &[u8], refusal: Refusal) ->
 /// was cut short ends with `..`. `None` if the memory runs out.
 pub fn place_in_rule(alloc: Global, side: Side, fault: &Fault, before: usize) -> Option<String> {
     let mut path = String::new(alloc);
-    add_place(alloc, side, fault, before, &mut path)?;
+    add_place(side, fault, before, &mut path)?;
     Some(path)
 }
 
@@ -82,33 +95,46 @@ fn one_payload<'a>(alloc: Global, payload: &'a [u8]) -> Option<Payloads<'a>> {
     Some(parts)
 }
 
-// The rule to which `not` alone leads from this one; adds these steps to the path. Such rules need no second reading:
-// what is wrong is inside them.
-fn past_nots<'a>(
+// Goes to the rule to which `not` alone leads from this one; adds these steps to the path. Such rules need no second
+// reading: what is wrong is inside them.
+fn to_rule_below_nots(
     alloc: Global,
     side: Side,
-    rule: Inner<'a>,
+    inner: &mut Inner<'_>,
     path: &mut String,
-) -> Option<Inner<'a>> {
-    let mut inner = rule;
+) -> Option<()> {
     for _ in 0..RULE_DEPTH {
-        let Some(parts) = negated(alloc, side, &inner.parts) else {
-            return Some(inner);
-        };
-        if inner.depth == 0 {
-            return Some(inner);
+        if !to_negated(alloc, side, inner) {
+            return Some(());
         }
-        inner.parts = parts;
-        inner.depth -= 1;
-        add_field(alloc, Message::Rule(side), NOT, path)?;
+        add_field(Message::Rule(side), NOT, path)?;
     }
-    Some(inner)
+    Some(())
+}
+
+// Goes to the rule that this one negates, if there is one and it may have a level.
+fn to_negated(alloc: Global, side: Side, inner: &mut Inner<'_>) -> bool {
+    if inner.depth == 0 {
+        return false;
+    }
+    match negated(alloc, side, &inner.parts) {
+        Some(parts) => {
+            inner.parts = parts;
+            inner.depth -= 1;
+            true
+        }
+        None => false,
+    }
 }
 
 // The payloads of the rule that a rule negates, if its own message has no fault.
 fn negated<'a>(alloc: Global, side: Side, parts: &[&'a [u8]]) -> Option<Payloads<'a>> {
     let fields = read_message(alloc, parts, rule_keys(side)).ok()?;
-    let run = trailing_run(&fields);
+    negated_in(alloc, &fields)
+}
+
+fn negated_in<'a>(alloc: Global, fields: &[Field<'a>]) -> Option<Payloads<'a>> {
+    let run = trailing_run(fields);
     match run.first() {
         Some(field) if field.number == NOT => payloads_of(alloc, run, NOT).ok(),
         _ => None,
@@ -120,30 +146,35 @@ fn fault_of_rule(alloc: Global, side: Side, rule: &Inner<'_>) -> Option<Fault> {
     read_rule_at(&mut list, side, &rule.parts, rule.depth).err()
 }
 
-// The last rule to which the steps of a place lead from this rule; adds these steps to the path. `None` if they
-// lead to no rule.
-fn last_rule<'a>(
+// Goes to the last rule to which the steps of a place lead from this rule; adds these steps to the path. `None` if
+// they lead to no rule.
+fn to_last_rule(
     alloc: Global,
     side: Side,
-    rule: Inner<'a>,
+    inner: &mut Inner<'_>,
     fault: &Fault,
     path: &mut String,
-) -> Option<Inner<'a>> {
+) -> Option<()> {
     let count = steps_to_a_rule(side, &fault.place);
-    let mut inner = rule;
+    if count == 0 {
+        return None;
+    }
     let mut part = Message::Rule(side);
     for index in 0..count {
         let step = fault.place.step(index)?;
-        inner.parts = payloads_in(alloc, part, &inner.parts, step)?;
-        part = add_step(alloc, part, step, path)?;
+        to_part(alloc, part, step, inner)?;
+        part = add_step(part, step, path)?;
         if let Message::Rule(_) = part {
             inner.depth = inner.depth.saturating_sub(1);
         }
     }
-    if count == 0 {
-        return None;
-    }
-    Some(inner)
+    Some(())
+}
+
+// Goes to the part to which a step leads.
+fn to_part(alloc: Global, part: Message, step: Step, inner: &mut Inner<'_>) -> Option<()> {
+    inner.parts = payloads_in(alloc, part, &inner.parts, step)?;
+    Some(())
 }
 
 // How many steps of the place lead from a rule to the last rule on its path.
@@ -173,42 +204,43 @@ fn payloads_in<'a>(
     step: Step,
 ) -> Option<Payloads<'a>> {
     let fields = read_parts(alloc, parts).ok()?;
+    payloads_at(alloc, part, &fields, step)
+}
+
+fn payloads_at<'a>(
+    alloc: Global,
+    part: Message,
+    fields: &[Field<'a>],
+    step: Step,
+) -> Option<Payloads<'a>> {
     if let Message::Set(_) = part {
         let field = fields.get(step.position as usize)?;
         return one_payload(alloc, len_of(field, step.number)?);
     }
-    payloads_of(alloc, trailing_run(&fields), step.number).ok()
+    payloads_of(alloc, trailing_run(fields), step.number).ok()
 }
 
 // Adds the path from a rule to the place, of which the first `before` steps lead to the rule.
-fn add_place(
-    alloc: Global,
-    side: Side,
-    fault: &Fault,
-    before: usize,
-    path: &mut String,
-) -> Option<()> {
+fn add_place(side: Side, fault: &Fault, before: usize, path: &mut String) -> Option<()> {
     let mut part = Message::Rule(side);
     for index in before..MOST_STEPS {
         if let Some(step) = fault.place.step(index) {
-            part = add_step(alloc, part, step, path)?;
+            part = add_step(part, step, path)?;
         }
     }
-    add_end(alloc, part, fault, path)
+    add_end(part, fault, path)
 }
 
-fn add_step(alloc: Global, part: Message, step: Step, path: &mut String) -> Option<Message> {
-    let inner = add_field(alloc, part, step.number, path)?;
+fn add_step(part: Message, step: Step, path: &mut String) -> Option<Message> {
+    let inner = add_field(part, step.number, path)?;
     if let Message::Set(_) = part {
-        let position = step.position;
-        let text = format!(in alloc; "[{position}]").ok()?;
-        path.push_str(text.as_str()).ok()?;
+        write!(path, "[{}]", step.position).ok()?;
     }
     Some(inner)
 }
 
 // Adds the field that the place names, if it names one.
-fn add_end(alloc: Global, part: Message, fault: &Fault, path: &mut String) -> Option<()> {
+fn add_end(part: Message, fault: &Fault, path: &mut String) -> Option<()> {
     if fault.place.is_cut_short() {
         return path.push_str("..").ok();
     }
@@ -216,25 +248,24 @@ fn add_end(alloc: Global, part: Message, fault: &Fault, path: &mut String) -> Op
         return Some(());
     };
     if fault.refusal == Refusal::UnknownField {
-        return add_number(alloc, number, path);
+        return add_number(number, path);
     }
-    add_field(alloc, part, number, path)?;
+    add_field(part, number, path)?;
     Some(())
 }
 
 // Adds the name of the field, or its number if it has none, and gives what it holds.
-fn add_field(alloc: Global, part: Message, number: u32, path: &mut String) -> Option<Message> {
+fn add_field(part: Message, number: u32, path: &mut String) -> Option<Message> {
     let Some(field) = field_of(part, number) else {
-        add_number(alloc, number, path)?;
+        add_number(number, path)?;
         return Some(Message::Scalar);
     };
     path.push_str(field.step).ok()?;
     Some(field.message)
 }
 
-fn add_number(alloc: Global, number: u32, path: &mut String) -> Option<()> {
-    let text = format!(in alloc; ", field {number}").ok()?;
-    path.push_str(text.as_str()).ok()
+fn add_number(number: u32, path: &mut String) -> Option<()> {
+    write!(path, ", field {number}").ok()
 }
 
 // The field of this number.

@@ -14,7 +14,7 @@ use attributes::Cidr;
 use std::alloc::{AllocError, Global};
 
 /// The texts and the ranges of addresses that leaves refer to by place.
-#[derive(Debug, Drop)]
+#[derive(Drop)]
 pub(crate) struct Pool {
     pub(crate) text: Vec<u8>,
     /// The borders of the texts that are searched for in any case.
@@ -23,14 +23,14 @@ pub(crate) struct Pool {
 }
 
 /// Consecutive bytes of the pool's text.
-#[derive(Clone, Copy, Debug)]
+#[derive(Clone, Copy)]
 pub(crate) struct Span {
     pub(crate) from: u32,
     pub(crate) count: u32,
 }
 
 /// A test of a text; the sought text is in the pool.
-#[derive(Clone, Copy, Debug)]
+#[derive(Clone, Copy)]
 pub(crate) enum TextLeaf {
     /// The case of letters counts.
     Plain(Pattern, Span),

@@ -20,7 +20,7 @@ use std::marker::Model;
 const PORTS: i32 = 65_536;
 
 /// Consecutive ports: `start` is the first, and `end` is the one after the last.
-#[derive(Clone, Copy, Debug)]
+#[derive(Clone, Copy)]
 pub struct PortRange {
     pub(crate) start: u32,
     pub(crate) end: u32,

@@ -1,20 +1,24 @@
 //! The reading of rules, down to a depth.
 
-ghost use Rattle.std.specs.Prelude.{◌++◌, List, IfOk, IfErr, OnOk, map};
+ghost use Rattle.std.specs.Prelude.{◌≡◌, ◌++◌, ◌∷◌, List, IfOk, IfErr, OnOk, length, map};
 ghost use Rattle.proto_wire.specs.Fields.{field_view};
 ghost use Rattle.proto_wire.specs.Merge.{parts_view};
+ghost use Rattle.proto_wire.specs.Places.{FaultOr};
 ghost use Rattle.proto_wire.specs.Refusal.{MemoryOr};
 ghost use Rattle.proto_wire.specs.Values.{payloads};
+ghost use Rattle.rbac_match.specs.Formula.{Formula, Formulas, leaf, not_of};
+ghost use Rattle.rbac_match.specs.Leaves.{IsLeaf, LeafFault};
 ghost use Rattle.rbac_match.specs.Places.{EachOr, PlacedOr, part_of, rule, set};
 ghost use Rattle.rbac_match.specs.Rules.{IsRule, AreRules, IsSet, MemberSays, RuleFault, SomeRuleFault};
-ghost use Rattle.rbac_match.specs.Tokens.{AddsRule, AddsRules, GoesOn, Token};
+ghost use Rattle.rbac_match.specs.Tokens.{AddsRule, AddsRules, GoesOn, Token, joins, tokens};
 ghost use Rattle.rbac_match.specs.View.{rules_view};
+ghost use Rattle.rbac_match.specs.declared.matcher.Matcher.{Matcher};
 
 use crate::fields::{require_true, trailing_run};
 use crate::keys::{RULES, SET, rule_keys};
 use crate::leaf::read_leaf;
 use crate::list::{Joint, RuleList, Rules};
-use crate::member::{LastMember, Member, last_member};
+use crate::member::{LastMember, LeafKind, Member, last_member};
 use crate::rule::Side;
 use proto_wire::{
     Fault, Field, Refusal, inside_field, len_of, payloads_of, read_message_at, require_level,
@@ -78,19 +82,14 @@ fn read_member(
     ensures fault { IfErr result (PlacedOr side
         (part_of depth last.member last.number (map field_view run.now))) }
 {
-    let place = list.len();
     match last.member {
         Member::And => {
             let set = payloads_of(list.alloc(), run, last.number)?;
-            list.add_any()?;
-            read_set(list, side, &set, depth)?;
-            Ok(list.join(place, Joint::And)?)
+            read_joined(list, side, Joint::And, &set, depth)
         }
         Member::Or => {
             let set = payloads_of(list.alloc(), run, last.number)?;
-            list.add_any()?;
-            read_set(list, side, &set, depth)?;
-            Ok(list.join(place, Joint::Or)?)
+            read_joined(list, side, Joint::Or, &set, depth)
         }
         Member::Any => {
             require_true(run, last.number)?;
@@ -98,15 +97,57 @@ fn read_member(
         }
         Member::Not => {
             let parts = payloads_of(list.alloc(), run, last.number)?;
-            list.add_any()?;
-            read_rule_at(list, side, &parts, depth)?;
-            Ok(list.join(place, Joint::Not)?)
+            read_negated(list, side, &parts, depth)
         }
-        Member::Leaf(kind) => {
-            let test = read_leaf(list.alloc(), kind, last.number, run)?;
-            Ok(list.add_leaf(&test)?)
-        }
+        Member::Leaf(kind) => read_test(list, kind, last.number, run),
     }
+}
+
+// Reads a set from its parts, and appends a rule that joins the set's rules, and these rules.
+#[cycle(rule)]
+fn read_joined(
+    list: &mut RuleList,
+    side: Side,
+    joint: Joint,
+    parts: &[&[u8]],
+    depth: u32,
+) -> Result<(), Fault>
+    ensures found { OnOk result ((gs : Formulas) × IsSet (IsRule side depth) (parts_view parts.now) gs
+        × (list.new ≡ list.old ++ joins joint (length (tokens gs)) ∷ tokens gs)) }
+    ensures fault { IfErr result (PlacedOr side (set depth (parts_view parts.now))) }
+{
+    let place = list.len();
+    list.add_any()?;
+    read_set(list, side, parts, depth)?;
+    Ok(list.join(place, joint)?)
+}
+
+// Reads a rule from its parts, and appends its negation.
+#[cycle(rule)]
+fn read_negated(list: &mut RuleList, side: Side, parts: &[&[u8]], depth: u32) -> Result<(), Fault>
+    ensures found { OnOk result (AddsRule (λ f. (g : Formula) × IsRule side depth (parts_view parts.now) g
+        × (f ≡ not_of g)) list.old list.new) }
+    ensures fault { IfErr result (PlacedOr side (rule depth (parts_view parts.now))) }
+{
+    let place = list.len();
+    list.add_any()?;
+    read_rule_at(list, side, parts, depth)?;
+    Ok(list.join(place, Joint::Not)?)
+}
+
+// Reads a test of this kind from the run of its member, which has this number, and appends it.
+fn read_test(
+    list: &mut RuleList,
+    kind: LeafKind,
+    number: u32,
+    run: &[Field<'_>],
+) -> Result<(), Fault>
+    ensures found { OnOk result (AddsRule (λ f. (m : Matcher)
+        × IsLeaf kind number (map field_view run.now) m × (f ≡ leaf m)) list.old list.new) }
+    ensures fault { IfErr result (FaultOr (LeafFault kind number (map field_view run.now))) }
+{
+    let test = read_leaf(list.alloc(), kind, number, run)?;
+    Ok(list.add_leaf(&test)?)
 }
 
 // Reads the rules of a set from the set's parts, and appends them.

@@ -23,7 +23,7 @@ use std::alloc::Global;
 use std::marker::Model;
 
 /// How a text is compared with the sought one.
-#[derive(Clone, Copy, PartialEq, Eq, Debug)]
+#[derive(Clone, Copy, PartialEq, Eq)]
 pub enum Pattern {
     /// The text is the sought one.
     Exact,
@@ -36,7 +36,7 @@ pub enum Pattern {
 }
 
 /// How a text is compared with the sought one, from its ends.
-#[derive(Clone, Copy, PartialEq, Eq, Debug)]
+#[derive(Clone, Copy)]
 pub(crate) enum Ends {
     /// The text is the sought one.
     Exact,
@@ -47,7 +47,7 @@ pub(crate) enum Ends {
 }
 
 /// A test of a text, as a message has it.
-#[derive(Debug, Drop)]
+#[derive(Drop)]
 pub struct TextMatcher<'a> {
     pub(crate) pattern: Pattern,
     pub(crate) sought: &'a str,

@@ -14,6 +14,7 @@ use crate::rule::Side;
 use crate::text::{Ends, Pattern};
 use attributes::{Cidr, Ip, Request};
 use std::alloc::{AllocError, Global};
+use std::fmt::Write;
 use std::net::{Ipv4Addr, Ipv6Addr};
 
 // How many characters of a text are shown.
@@ -45,15 +46,27 @@ fn words_of(
     side: Side,
     request: &Request,
 ) -> Result<String, AllocError> {
-    let mut text = path_words(alloc, side, &cause.path)?;
-    text.push('.')?;
-    text.push_str(test_words(alloc, leaves, cause.place, request)?.as_str())?;
+    let mut text = String::new(alloc);
+    write_cause(&mut text, leaves, cause, side, request)?;
     Ok(text)
 }
 
+// Writes a cause. This function and those below write to a text that they do not own, so that no exit of them frees
+// one.
+fn write_cause(
+    text: &mut String,
+    leaves: &Leaves,
+    cause: &Cause,
+    side: Side,
+    request: &Request,
+) -> Result<(), AllocError> {
+    write_path(text, side, &cause.path)?;
+    text.push('.')?;
+    write_test(text, leaves, cause.place, request)
+}
+
 // The path, with the names of the fields that hold rules.
-fn path_words(alloc: Global, side: Side, path: &[Step]) -> Result<String, AllocError> {
-    let mut text = String::new(alloc);
+fn write_path(text: &mut String, side: Side, path: &[Step]) -> Result<(), AllocError> {
     for (depth, step) in path.iter().enumerate() {
         let name = if depth == 0 {
             side_name(side)
@@ -62,11 +75,10 @@ fn path_words(alloc: Global, side: Side, path: &[Step]) -> Result<String, AllocE
         };
         text.push_str(name)?;
         if step.joint != Joint::Not {
-            let index = format!(in alloc; "[{}]", step.index)?;
-            text.push_str(index.as_str())?;
+            write!(text, "[{}]", step.index)?;
         }
     }
-    Ok(text)
+    Ok(())
 }
 
 fn side_name(side: Side) -> &'static str {
@@ -88,269 +100,290 @@ fn joint_name(side: Side, joint: Joint) -> &'static str {
 }
 
 // The test at this place, and what the request has.
-fn test_words(
-    alloc: Global,
+fn write_test(
+    text: &mut String,
     leaves: &Leaves,
     place: Option<u32>,
     request: &Request,
-) -> Result<String, AllocError> {
+) -> Result<(), AllocError> {
     let found = match place {
         Some(place) => leaves.leaf(place),
         None => None,
     };
     match found {
-        Some((pool, leaf)) => leaf_words(alloc, pool, leaf, request),
-        None => String::from_str(alloc, "any"),
+        Some((pool, leaf)) => write_leaf(text, pool, leaf, request),
+        None => text.push_str("any"),
     }
 }
 
-fn leaf_words(
-    alloc: Global,
+fn write_leaf(
+    text: &mut String,
     pool: &Pool,
     leaf: &Leaf,
     request: &Request,
-) -> Result<String, AllocError>
+) -> Result<(), AllocError>
     requires { GoodLeaf pool.now leaf.now }
 {
     match leaf {
-        Leaf::Present(name, wanted) => present_words(alloc, pool, name, *wanted, request),
-        Leaf::HeaderText(name, test) => header_text_words(alloc, pool, name, test, request),
-        Leaf::HeaderRange(name, range) => header_range_words(alloc, pool, name, range, request),
+        Leaf::Present(name, wanted) => write_presence(text, pool, name, *wanted, request),
+        Leaf::HeaderText(name, test) => write_header_text(text, pool, name, test, request),
+        Leaf::HeaderRange(name, range) => write_header_range(text, pool, name, range, request),
         Leaf::Address(source, place) => {
-            address_words(alloc, *source, &pool.ranges[*place as usize], request)
+            write_address(text, *source, &pool.ranges[*place as usize], request)
         }
-        Leaf::Port(port) => port_words(alloc, *port, request),
-        Leaf::PortRange(ports) => port_range_words(alloc, ports, request),
-        Leaf::ServerName(test) => server_name_words(alloc, pool, test, request),
-        Leaf::UrlPath(test) => url_path_words(alloc, pool, test, request),
-        Leaf::Mutual => mutual_words(alloc, request),
-        Leaf::Named(test) => named_words(alloc, pool, test, request),
+        Leaf::Port(port) => write_port(text, *port, request),
+        Leaf::PortRange(ports) => write_port_range(text, ports, request),
+        Leaf::ServerName(test) => write_server_name(text, pool, test, request),
+        Leaf::UrlPath(test) => write_url_path(text, pool, test, request),
+        Leaf::Mutual => write_mutual(text, request),
+        Leaf::Named(test) => write_peer(text, pool, test, request),
     }
 }
 
 // The test of a header's presence, and what the request has.
-fn present_words(
-    alloc: Global,
+fn write_presence(
+    text: &mut String,
     pool: &Pool,
     name: &NameLeaf,
     wanted: bool,
     request: &Request,
-) -> Result<String, AllocError>
+) -> Result<(), AllocError>
     requires { GoodName pool.now name.now }
 {
-    let wanted = if wanted { "present" } else { "missing" };
-    header_words(alloc, pool, name, wanted, request)
+    write_header(text, pool, name)?;
+    text.push_str(if wanted { "present" } else { "missing" })?;
+    write_value(text, pool, name, request)
 }
 
 // The test of a header's text, and what the request has.
-fn header_text_words(
-    alloc: Global,
+fn write_header_text(
+    text: &mut String,
     pool: &Pool,
     name: &NameLeaf,
     test: &TextLeaf,
     request: &Request,
-) -> Result<String, AllocError>
+) -> Result<(), AllocError>
     requires name { GoodName pool.now name.now }
     requires text { GoodText pool.now test.now }
 {
-    let wanted = text_words(alloc, pool, test)?;
-    header_words(alloc, pool, name, wanted.as_str(), request)
+    write_header(text, pool, name)?;
+    write_text_test(text, pool, test)?;
+    write_value(text, pool, name, request)
 }
 
 // The test of a number in a header, and what the request has.
-fn header_range_words(
-    alloc: Global,
+fn write_header_range(
+    text: &mut String,
     pool: &Pool,
     name: &NameLeaf,
     range: &Int64Range,
     request: &Request,
-) -> Result<String, AllocError>
+) -> Result<(), AllocError>
     requires { GoodName pool.now name.now }
 {
-    let wanted = format!(in alloc; "range [{}, {})", range.start, range.end)?;
-    header_words(alloc, pool, name, wanted.as_str(), request)
+    write_header(text, pool, name)?;
+    write!(text, "range [{}, {})", range.start, range.end)?;
+    write_value(text, pool, name, request)
 }
 
-// The test of a header, in these words, and what the request has.
-fn header_words(
-    alloc: Global,
-    pool: &Pool,
-    name: &NameLeaf,
-    wanted: &str,
-    request: &Request,
-) -> Result<String, AllocError>
+// The name of a header, before its test.
+fn write_header(text: &mut String, pool: &Pool, name: &NameLeaf) -> Result<(), AllocError>
     requires { GoodName pool.now name.now }
 {
-    let flag = if name.invert_match { " (inverted)" } else { "" };
-    let named = part_text(pool, name.name);
-    let shown = quoted(alloc, named)?;
-    let found = found_words(alloc, request.header(named))?;
-    format!(in alloc; "header {shown}: {wanted}{flag}, is {found}")
+    text.push_str("header ")?;
+    write_quoted(text, part_text(pool, name.name))?;
+    text.push_str(": ")
+}
+
+// Whether the test of a header is inverted, and the header's value in the request.
+fn write_value(
+    text: &mut String,
+    pool: &Pool,
+    name: &NameLeaf,
+    request: &Request,
+) -> Result<(), AllocError>
+    requires { GoodName pool.now name.now }
+{
+    if name.invert_match {
+        text.push_str(" (inverted)")?;
+    }
+    text.push_str(", is ")?;
+    write_found(text, request.header(part_text(pool, name.name)))
 }
 
 // The test of a text, such as `exact "alice"`.
-fn text_words(alloc: Global, pool: &Pool, test: &TextLeaf) -> Result<String, AllocError>
+fn write_text_test(text: &mut String, pool: &Pool, test: &TextLeaf) -> Result<(), AllocError>
     requires { GoodText pool.now test.now }
 {
     match test {
         TextLeaf::Plain(pattern, span) => {
-            let sought = quoted(alloc, part_text(pool, *span))?;
-            format!(in alloc; "{} {sought}", pattern_name(*pattern))
+            write_sought(text, pattern_name(*pattern), part_text(pool, *span))
         }
         TextLeaf::AnyCase(ends, span) => {
-            let sought = quoted(alloc, part_text(pool, *span))?;
-            format!(in alloc; "{} {sought} ignoring case", ends_name(*ends))
+            write_any_case(text, ends_name(*ends), part_text(pool, *span))
         }
-        TextLeaf::Searched(span, _) => {
-            let sought = quoted(alloc, part_text(pool, *span))?;
-            format!(in alloc; "contains {sought} ignoring case")
-        }
+        TextLeaf::Searched(span, _) => write_any_case(text, "contains ", part_text(pool, *span)),
     }
+}
+
+fn write_sought(text: &mut String, pattern: &str, sought: &str) -> Result<(), AllocError> {
+    text.push_str(pattern)?;
+    write_quoted(text, sought)
+}
+
+fn write_any_case(text: &mut String, pattern: &str, sought: &str) -> Result<(), AllocError> {
+    write_sought(text, pattern, sought)?;
+    text.push_str(" ignoring case")
 }
 
 fn pattern_name(pattern: Pattern) -> &'static str {
     match pattern {
-        Pattern::Exact => "exact",
-        Pattern::Prefix => "prefix",
-        Pattern::Suffix => "suffix",
-        Pattern::Contains => "contains",
+        Pattern::Exact => "exact ",
+        Pattern::Prefix => "prefix ",
+        Pattern::Suffix => "suffix ",
+        Pattern::Contains => "contains ",
     }
 }
 
 fn ends_name(ends: Ends) -> &'static str {
     match ends {
-        Ends::Exact => "exact",
-        Ends::Prefix => "prefix",
-        Ends::Suffix => "suffix",
+        Ends::Exact => "exact ",
+        Ends::Prefix => "prefix ",
+        Ends::Suffix => "suffix ",
     }
 }
 
 // The range of addresses, and the request's address.
-fn address_words(
-    alloc: Global,
+fn write_address(
+    text: &mut String,
     source: AddressSource,
     range: &Cidr,
     request: &Request,
-) -> Result<String, AllocError> {
-    let name = match source {
-        AddressSource::Destination => "destination_ip",
-        AddressSource::DirectRemote => "direct_remote_ip",
-        AddressSource::Remote => "remote_ip",
-    };
-    let start = ip_words(alloc, range.address())?;
-    let count = range.prefix_len();
-    let found = match source.of(request.conn()) {
-        Some(ip) => ip_words(alloc, ip)?,
-        None => String::from_str(alloc, "unknown")?,
-    };
-    format!(in alloc; "{name}: {start}/{count}, is {found}")
-}
-
-fn ip_words(alloc: Global, ip: Ip) -> Result<String, AllocError> {
-    match ip {
-        Ip::V4(number) => format!(in alloc; "{}", Ipv4Addr::from_bits(number)),
-        Ip::V6(number) => format!(in alloc; "{}", Ipv6Addr::from_bits(number)),
+) -> Result<(), AllocError> {
+    text.push_str(source_name(source))?;
+    write_ip(text, range.address())?;
+    write!(text, "/{}, is ", range.prefix_len())?;
+    match source.of(request.conn()) {
+        Some(ip) => write_ip(text, ip),
+        None => text.push_str("unknown"),
     }
 }
 
-fn port_words(alloc: Global, port: u16, request: &Request) -> Result<String, AllocError> {
-    let found = found_port(alloc, request)?;
-    format!(in alloc; "destination_port: {port}, is {found}")
+fn source_name(source: AddressSource) -> &'static str {
+    match source {
+        AddressSource::Destination => "destination_ip: ",
+        AddressSource::DirectRemote => "direct_remote_ip: ",
+        AddressSource::Remote => "remote_ip: ",
+    }
 }
 
-fn port_range_words(
-    alloc: Global,
+fn write_ip(text: &mut String, ip: Ip) -> Result<(), AllocError> {
+    match ip {
+        Ip::V4(number) => write!(text, "{}", Ipv4Addr::from_bits(number)),
+        Ip::V6(number) => write!(text, "{}", Ipv6Addr::from_bits(number)),
+    }
+}
+
+fn write_port(text: &mut String, port: u16, request: &Request) -> Result<(), AllocError> {
+    write!(text, "destination_port: {port}, is ")?;
+    write_found_port(text, request)
+}
+
+fn write_port_range(
+    text: &mut String,
     ports: &PortRange,
     request: &Request,
-) -> Result<String, AllocError> {
-    let found = found_port(alloc, request)?;
+) -> Result<(), AllocError> {
     let (start, end) = (ports.start, ports.end);
-    format!(in alloc; "destination_port_range: [{start}, {end}), is {found}")
+    write!(text, "destination_port_range: [{start}, {end}), is ")?;
+    write_found_port(text, request)
 }
 
-fn found_port(alloc: Global, request: &Request) -> Result<String, AllocError> {
+fn write_found_port(text: &mut String, request: &Request) -> Result<(), AllocError> {
     match request.conn().destination_port {
-        Some(port) => format!(in alloc; "{port}"),
-        None => String::from_str(alloc, "unknown"),
+        Some(port) => write!(text, "{port}"),
+        None => text.push_str("unknown"),
     }
 }
 
 // The test of the server name that the client requested, and this name.
-fn server_name_words(
-    alloc: Global,
+fn write_server_name(
+    text: &mut String,
     pool: &Pool,
     test: &TextLeaf,
     request: &Request,
-) -> Result<String, AllocError>
+) -> Result<(), AllocError>
     requires { GoodText pool.now test.now }
 {
-    let wanted = text_words(alloc, pool, test)?;
-    let found = match &request.conn().requested_server_name {
-        Some(name) => quoted(alloc, name.as_str())?,
-        None => String::from_str(alloc, "missing")?,
-    };
-    format!(in alloc; "requested_server_name: {wanted}, is {found}")
-}
-
-// The test of the path, and the path.
-fn url_path_words(
-    alloc: Global,
-    pool: &Pool,
-    test: &TextLeaf,
-    request: &Request,
-) -> Result<String, AllocError>
-    requires { GoodText pool.now test.now }
-{
-    let wanted = text_words(alloc, pool, test)?;
-    let found = quoted(alloc, request.url_path())?;
-    format!(in alloc; "url_path: {wanted}, is {found}")
-}
-
-// That mutual TLS is required, and whether it is used.
-fn mutual_words(alloc: Global, request: &Request) -> Result<String, AllocError> {
-    let found = match request.conn().mtls {
-        Some(true) => "true",
-        Some(false) => "false",
-        None => "unknown",
-    };
-    format!(in alloc; "authenticated: mutual TLS, is {found}")
-}
-
-// The test of the peer's name, and this name, or that the connection does not use mutual TLS.
-fn named_words(
-    alloc: Global,
-    pool: &Pool,
-    test: &TextLeaf,
-    request: &Request,
-) -> Result<String, AllocError>
-    requires { GoodText pool.now test.now }
-{
-    let conn = request.conn();
-    let wanted = text_words(alloc, pool, test)?;
-    let found = if conn.mtls == Some(true) {
-        found_words(alloc, peer_name(conn))?
-    } else {
-        String::from_str(alloc, "without mutual TLS")?
-    };
-    format!(in alloc; "authenticated: {wanted}, is {found}")
-}
-
-// A text of the request in quotes, if it is present.
-fn found_words(alloc: Global, text: Option<&str>) -> Result<String, AllocError> {
-    match text {
-        Some(text) => quoted(alloc, text),
-        None => String::from_str(alloc, "missing"),
+    text.push_str("requested_server_name: ")?;
+    write_text_test(text, pool, test)?;
+    text.push_str(", is ")?;
+    match &request.conn().requested_server_name {
+        Some(name) => write_quoted(text, name.as_str()),
+        None => text.push_str("missing"),
     }
 }
 
-// The first characters of the text in quotes, and `..` if more follow.
-fn quoted(alloc: Global, text: &str) -> Result<String, AllocError> {
-    match text.char_indices().nth(SHOWN) {
+// The test of the path, and the path.
+fn write_url_path(
+    text: &mut String,
+    pool: &Pool,
+    test: &TextLeaf,
+    request: &Request,
+) -> Result<(), AllocError>
+    requires { GoodText pool.now test.now }
+{
+    text.push_str("url_path: ")?;
+    write_text_test(text, pool, test)?;
+    text.push_str(", is ")?;
+    write_quoted(text, request.url_path())
+}
+
+// That mutual TLS is required, and whether it is used.
+fn write_mutual(text: &mut String, request: &Request) -> Result<(), AllocError> {
+    text.push_str("authenticated: mutual TLS, is ")?;
+    text.push_str(match request.conn().mtls {
+        Some(true) => "true",
+        Some(false) => "false",
+        None => "unknown",
+    })
+}
+
+// The test of the peer's name, and this name, or that the connection does not use mutual TLS.
+fn write_peer(
+    text: &mut String,
+    pool: &Pool,
+    test: &TextLeaf,
+    request: &Request,
+) -> Result<(), AllocError>
+    requires { GoodText pool.now test.now }
+{
+    let conn = request.conn();
+    text.push_str("authenticated: ")?;
+    write_text_test(text, pool, test)?;
+    text.push_str(", is ")?;
+    if conn.mtls == Some(true) {
+        return write_found(text, peer_name(conn));
+    }
+    text.push_str("without mutual TLS")
+}
+
+// A text of the request in quotes, if it is present.
+fn write_found(text: &mut String, found: Option<&str>) -> Result<(), AllocError> {
+    match found {
+        Some(found) => write_quoted(text, found),
+        None => text.push_str("missing"),
+    }
+}
+
+// The first characters of this part in quotes, and `..` if more follow.
+fn write_quoted(text: &mut String, part: &str) -> Result<(), AllocError> {
+    match part.char_indices().nth(SHOWN) {
         Some((count, _)) => {
-            let start = text.get(..count).unwrap_or("");
-            format!(in alloc; "{start:?}..")
+            let start = part.get(..count).unwrap_or("");
+            write!(text, "{start:?}..")
         }
-        None => format!(in alloc; "{text:?}"),
+        None => write!(text, "{part:?}"),
     }
 }
 

@@ -2,7 +2,7 @@ use Rattle.std.proofs.Common.{map}
 use Rattle.http_front.specs.Parts.{field_view as line_view}
 use Rattle.proto_wire.specs.Fields.{field_view}
 use Rattle.check_request.specs.Lines.{IsHeader}
-use Rattle.check_request.proofs.Lists.{zip_more}
+use Rattle.xds_wire.proofs.Each.{zip_more}
 use Rattle.check_request.proofs.lines.read_each.Goals as goal
 
 pub loop-index-preserved : goal.loop-index-preserved

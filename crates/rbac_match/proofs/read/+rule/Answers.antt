@@ -8,50 +8,20 @@ use Rattle.proto_wire.specs.Oneof.{last_number, member_in, member_run, trailing_
 use Rattle.proto_wire.specs.Values.{len_in, payloads}
 use Rattle.proto_wire.specs.declared.field.Field.{Field}
 use Rattle.proto_wire.proofs.ValueLemmas.{picked_none, picked_some}
-use Rattle.rbac_match.specs.Formula.{any, and_of, or_of, not_of, leaf}
-use Rattle.rbac_match.specs.declared.list.Joint.TheVariants.{And, Or, Not}
+use Rattle.rbac_match.specs.Formula.{any, and_of, or_of, not_of}
+use Rattle.rbac_match.specs.declared.list.Joint.TheVariants.{Not}
 use Rattle.rbac_match.specs.Message.{members, rule_keys, set_field, set_keys}
 use Rattle.rbac_match.specs.Places.{rule, set, always, part_of, PlacedOr, EachOr}
 use Rattle.rbac_match.specs.Rules.{IsRule, SetFault, RuleFault}
 use Rattle.proto_wire.proofs.Exits.{memory_or_weaker}
 use Rattle.proto_wire.proofs.Messages.{no_steps}
 use Rattle.rbac_match.proofs.Exits.{exit_with, placed_found}
-use Rattle.rbac_match.proofs.Places.{exit_here, exit_own, exit_leaf, step_out, each_out, set_out, to_member, last_steps, last_refusal, is_at}
+use Rattle.rbac_match.proofs.Places.{exit_here, exit_own, leaf_placed, step_out, each_out, set_out, to_member, last_steps, last_refusal, is_at}
 use Rattle.rbac_match.proofs.Levels.{rule_found, fault_deeper, last_fault}
 use Rattle.rbac_match.proofs.Adding.{adds_none, adds_one, joined}
 use Rattle.rbac_match.proofs.Runs.{run_of_members}
 use Rattle.rbac_match.proofs.read.+rule.Goals as goal
 use Rattle.rbac_match.proofs.read.+rule.Goals.{read_each-in-Some+in_ok-inside_field, read_each-in_default}
-
-pub read_member-returns-in_err-read_set-in-And-clause-fault : goal.read_member-returns-in_err-read_set-in-And-clause-fault
-read_member-returns-in_err-read_set-in-And-clause-fault t c =
-    exit_with (PlacedOr c.args.side (part_of c.args.depth c.args.last.member c.args.last.number (map field_view c.args.run.now)))
-    c.from_residual-in_err-read_set-in-And.result _ c.from_residual-in_err-read_set-in-And.ensures.1
-    (rw c.in-And.is (rw (c.deref.ensures, c.in_ok-set-in-And.ensures) at c.in_err-read_set-in-And.ensures.fault))
-
-pub read_member-returns-in_err-read_set-in-Or-clause-fault : goal.read_member-returns-in_err-read_set-in-Or-clause-fault
-read_member-returns-in_err-read_set-in-Or-clause-fault t c =
-    exit_with (PlacedOr c.args.side (part_of c.args.depth c.args.last.member c.args.last.number (map field_view c.args.run.now)))
-    c.from_residual-in_err-read_set-in-Or.result _ c.from_residual-in_err-read_set-in-Or.ensures.1
-    (rw c.in-Or.is (rw (c.deref-in-Or.ensures, c.in_ok-set-in-Or.ensures) at c.in_err-read_set-in-Or.ensures.fault))
-
-pub read_member-returns-in_err-read_rule_at-in-Not-clause-fault : goal.read_member-returns-in_err-read_rule_at-in-Not-clause-fault
-read_member-returns-in_err-read_rule_at-in-Not-clause-fault t c =
-    exit_with (PlacedOr c.args.side (part_of c.args.depth c.args.last.member c.args.last.number (map field_view c.args.run.now)))
-    c.from_residual-in_err-read_rule_at-in-Not.result _ c.from_residual-in_err-read_rule_at-in-Not.ensures.1
-    (rw c.in-Not.is (rw (c.deref-in-Not.ensures, c.in_ok-parts-in-Not.ensures) at c.in_err-read_rule_at-in-Not.ensures.fault))
-
-pub read_member-returns-in_err-require_true-in-Any-clause-fault : goal.read_member-returns-in_err-require_true-in-Any-clause-fault
-read_member-returns-in_err-require_true-in-Any-clause-fault t c =
-    rw c.in-Any.is (exit_own c.args.side (always c.args.last.number (map field_view c.args.run.now))
-    c.from_residual-in_err-require_true-in-Any.result _ c.from_residual-in_err-require_true-in-Any.ensures.1
-    c.in_err-require_true-in-Any.ensures.fault)
-
-pub read_member-returns-in_err-test-in-Leaf-clause-fault : goal.read_member-returns-in_err-test-in-Leaf-clause-fault
-read_member-returns-in_err-test-in-Leaf-clause-fault t c =
-    rw c.in-Leaf.is (exit_leaf c.args.side _ c.args.last.number (map field_view c.args.run.now)
-    c.from_residual-in_err-test-in-Leaf.result _ c.from_residual-in_err-test-in-Leaf.ensures.1
-    c.in_err-test-in-Leaf.ensures.fault)
 
 pub read_rule_at-returns-in_err-require_level-clause-fault : goal.read_rule_at-returns-in_err-require_level-clause-fault
 read_rule_at-returns-in_err-require_level-clause-fault t c =
@@ -181,40 +151,75 @@ read_each-loop-index-preserved t c =
           rw (same, w.list-is) c.loop-index.invariant
     ]
 
-pub read_member-returns-in_ok-join-in-And-clause-found : goal.read_member-returns-in_ok-join-in-And-clause-found
-read_member-returns-in_ok-join-in-And-clause-found t c =
-    let added = c.in_ok-read_set-in-And.ensures.found in
-    let inside = rw (c.deref.ensures, c.in_ok-set-in-And.ensures) at added.1 in
-    rw c.in-And.is (
-      and_of added.0,
-      (added.0, inside, refl),
-      c.in_ok-join-in-And.ensures ∙ joined c.args.list.now _ _ _ c.len-place.result c.len-place.ensures c.in_ok-add_any-in-And.ensures added.2 And,
+pub read_joined-returns-in_err-read_set-clause-fault : goal.read_joined-returns-in_err-read_set-clause-fault
+read_joined-returns-in_err-read_set-clause-fault t c =
+    exit_with (PlacedOr c.args.side (set c.args.depth (parts_view c.args.parts.now))) c.from_residual-in_err-read_set.result _
+    c.from_residual-in_err-read_set.ensures.1 c.in_err-read_set.ensures.fault
+
+pub read_joined-returns-clause-found : goal.read_joined-returns-clause-found
+read_joined-returns-clause-found t c =
+    let added = c.in_ok-read_set.ensures.found in (
+      added.0,
+      added.1,
+      c.in_ok-join.ensures ∙ joined c.args.list.now _ _ _ c.len-place.result c.len-place.ensures c.in_ok-add_any.ensures added.2 c.args.joint,
     )
 
-pub read_member-returns-in_ok-join-in-Or-clause-found : goal.read_member-returns-in_ok-join-in-Or-clause-found
-read_member-returns-in_ok-join-in-Or-clause-found t c =
-    let added = c.in_ok-read_set-in-Or.ensures.found in
-    let inside = rw (c.deref-in-Or.ensures, c.in_ok-set-in-Or.ensures) at added.1 in
-    rw c.in-Or.is (
-      or_of added.0,
-      (added.0, inside, refl),
-      c.in_ok-join-in-Or.ensures ∙ joined c.args.list.now _ _ _ c.len-place.result c.len-place.ensures c.in_ok-add_any-in-Or.ensures added.2 Or,
-    )
+pub read_negated-returns-in_err-read_rule_at-clause-fault : goal.read_negated-returns-in_err-read_rule_at-clause-fault
+read_negated-returns-in_err-read_rule_at-clause-fault t c =
+    exit_with (PlacedOr c.args.side (rule c.args.depth (parts_view c.args.parts.now))) c.from_residual-in_err-read_rule_at.result _
+    c.from_residual-in_err-read_rule_at.ensures.1 c.in_err-read_rule_at.ensures.fault
 
-pub read_member-returns-in_ok-join-in-Not-clause-found : goal.read_member-returns-in_ok-join-in-Not-clause-found
-read_member-returns-in_ok-join-in-Not-clause-found t c =
-    let added = c.in_ok-read_rule_at-in-Not.ensures.found in
-    let inside = rw (c.deref-in-Not.ensures, c.in_ok-parts-in-Not.ensures) at added.1 in
-    rw c.in-Not.is (
+pub read_negated-returns-clause-found : goal.read_negated-returns-clause-found
+read_negated-returns-clause-found t c =
+    let added = c.in_ok-read_rule_at.ensures.found in (
       not_of added.0,
-      (added.0, inside, refl),
-      c.in_ok-join-in-Not.ensures ∙ joined c.args.list.now _ _ _ c.len-place.result c.len-place.ensures c.in_ok-add_any-in-Not.ensures added.2 Not,
+      (added.0, added.1, refl),
+      c.in_ok-join.ensures ∙ joined c.args.list.now _ _ _ c.len-place.result c.len-place.ensures c.in_ok-add_any.ensures added.2 Not,
     )
+
+pub read_member-returns-in_err-require_true-in-Any-clause-fault : goal.read_member-returns-in_err-require_true-in-Any-clause-fault
+read_member-returns-in_err-require_true-in-Any-clause-fault t c =
+    rw c.in-Any.is (exit_own c.args.side (always c.args.last.number (map field_view c.args.run.now))
+    c.from_residual-in_err-require_true-in-Any.result _ c.from_residual-in_err-require_true-in-Any.ensures.1
+    c.in_err-require_true-in-Any.ensures.fault)
 
 pub read_member-returns-in_ok-add_any-in-Any-clause-found : goal.read_member-returns-in_ok-add_any-in-Any-clause-found
 read_member-returns-in_ok-add_any-in-Any-clause-found t c =
     rw c.in-Any.is (any, (c.in_ok-require_true-in-Any.ensures.found, refl), c.in_ok-add_any-in-Any.ensures)
 
-pub read_member-returns-in_ok-add_leaf-in-Leaf-clause-found : goal.read_member-returns-in_ok-add_leaf-in-Leaf-clause-found
-read_member-returns-in_ok-add_leaf-in-Leaf-clause-found t c =
-    rw c.in-Leaf.is (leaf c.in_ok-test-in-Leaf.test, (c.in_ok-test-in-Leaf.test, c.in_ok-test-in-Leaf.ensures.found, refl), c.in_ok-add_leaf-in-Leaf.ensures)
+pub read_member-returns-in_ok-set-in-And-clause-found : goal.read_member-returns-in_ok-set-in-And-clause-found
+read_member-returns-in_ok-set-in-And-clause-found t c =
+    rw c.in-And.is (on_ok_weaker c.read_joined.result
+    (λ added. (and_of added.0, (added.0, rw (c.deref.ensures, c.in_ok-set-in-And.ensures) at added.1, refl), added.2))
+    c.read_joined.ensures.found)
+
+pub read_member-returns-in_ok-set-in-And-clause-fault : goal.read_member-returns-in_ok-set-in-And-clause-fault
+read_member-returns-in_ok-set-in-And-clause-fault t c =
+    rw c.in-And.is (rw (c.deref.ensures, c.in_ok-set-in-And.ensures) at c.read_joined.ensures.fault)
+
+pub read_member-returns-in_ok-set-in-Or-clause-found : goal.read_member-returns-in_ok-set-in-Or-clause-found
+read_member-returns-in_ok-set-in-Or-clause-found t c =
+    rw c.in-Or.is (on_ok_weaker c.read_joined-in-Or.result
+    (λ added. (or_of added.0, (added.0, rw (c.deref-in-Or.ensures, c.in_ok-set-in-Or.ensures) at added.1, refl), added.2))
+    c.read_joined-in-Or.ensures.found)
+
+pub read_member-returns-in_ok-set-in-Or-clause-fault : goal.read_member-returns-in_ok-set-in-Or-clause-fault
+read_member-returns-in_ok-set-in-Or-clause-fault t c =
+    rw c.in-Or.is (rw (c.deref-in-Or.ensures, c.in_ok-set-in-Or.ensures) at c.read_joined-in-Or.ensures.fault)
+
+pub read_member-returns-in_ok-parts-in-Not-clause-found : goal.read_member-returns-in_ok-parts-in-Not-clause-found
+read_member-returns-in_ok-parts-in-Not-clause-found t c =
+    rw c.in-Not.is (on_ok_weaker c.read_negated.result
+    (λ added. (added.0, (added.1.0, rw (c.deref-in-Not.ensures, c.in_ok-parts-in-Not.ensures) at added.1.1, added.1.2), added.2))
+    c.read_negated.ensures.found)
+
+pub read_member-returns-in_ok-parts-in-Not-clause-fault : goal.read_member-returns-in_ok-parts-in-Not-clause-fault
+read_member-returns-in_ok-parts-in-Not-clause-fault t c =
+    rw c.in-Not.is (rw (c.deref-in-Not.ensures, c.in_ok-parts-in-Not.ensures) at c.read_negated.ensures.fault)
+
+pub read_member-returns-in-Leaf-clause-found : goal.read_member-returns-in-Leaf-clause-found
+read_member-returns-in-Leaf-clause-found t c = rw c.in-Leaf.is c.read_test.ensures.found
+
+pub read_member-returns-in-Leaf-clause-fault : goal.read_member-returns-in-Leaf-clause-fault
+read_member-returns-in-Leaf-clause-fault t c =
+    rw c.in-Leaf.is (leaf_placed c.args.side _ c.args.last.number (map field_view c.args.run.now) c.read_test.result c.read_test.ensures.fault)
