@@ -59,6 +59,23 @@ impl Source for HostRuntime {
     }
 }
 
+/// Files that are shared.
+impl<F: Source> Source for &F {
+    ghost holds = { λ files. F.holds files.now };
+
+    ghost lacks = { λ files. F.lacks files.now };
+
+    fn read_file(&self, alloc: Global, path: &str) -> io::Result<Vec<u8>> {
+        F::read_file(*self, alloc, path)
+    }
+
+    type Log = F::Log;
+
+    fn open_log(&self, path: &str) -> io::Result<F::Log> {
+        F::open_log(*self, path)
+    }
+}
+
 /// The destination of a log.
 #[derive(Drop)]
 pub enum LogWriter {

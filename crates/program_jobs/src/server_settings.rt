@@ -1,7 +1,9 @@
 //! The settings of a server, and their texts. No contract describes the texts that are printed.
-ghost use Rattle.std.specs.Prelude.{IfOk};
+ghost use Rattle.std.specs.Prelude.{IfOk, codes};
+ghost use Rattle.attributes.specs.Conn.{conn_view};
+ghost use Rattle.serde_json.specs.Find.{get};
 ghost use Rattle.serde_json.specs.View.{view};
-ghost use Rattle.program_jobs.specs.ServerSettings.{IsSettingsText, MeansSettings};
+ghost use Rattle.program_jobs.specs.ServerSettings.{AreFactsIn, IsSettingsText, MeansSettings};
 
 use crate::paths::clash_of;
 use crate::settings_faults::all_causes;
@@ -9,11 +11,11 @@ use ads::Config;
 use attributes::{Conn, Limit};
 use program_texts::{FactsFault, conn_of};
 use proxy_replay::{ConfigTextFault, config_at, config_text};
+use rbac_judge::judge::plain_conn;
 use serde_json::Value;
 use serve_config::{Address, ServeConfig, ServeConfigFault, meaning, read_serve_config};
 use serve_log::facts_value;
 use std::alloc::{AllocError, Global};
-use std::sync::ArcStr;
 
 // The length of the longest text of a peer's address with its port: one of IPv6 in brackets.
 const LONGEST_PEER: usize = 47;
@@ -51,7 +53,7 @@ pub fn read_server_settings(
     path: &str,
     text: &[u8],
 ) -> Result<ServerSettings, ServerSettingsFault>
-    ensures { IfOk result (λ it. IsSettingsText text.now it.config it.settings) }
+    ensures { IfOk result (λ it. IsSettingsText text.now it.config (conn_view it.conn) it.settings) }
 {
     if text.is_empty() {
         return Err(ServerSettingsFault::Bad(String::from_str(alloc, "the file is empty")?));
@@ -104,7 +106,7 @@ impl From<AllocError> for PartFault {
 
 // All settings, each by itself allowed.
 fn parts_of(alloc: Global, value: &Value) -> Result<ServerSettings, PartFault>
-    ensures { IfOk result (λ it. MeansSettings (view value.now) it.config it.settings) }
+    ensures { IfOk result (λ it. MeansSettings (view value.now) it.config (conn_view it.conn) it.settings) }
 {
     let settings = match read_serve_config(alloc, value) {
         Ok(settings) => settings,
@@ -128,14 +130,19 @@ fn parts_of(alloc: Global, value: &Value) -> Result<ServerSettings, PartFault>
 }
 
 // The facts of all connections.
-fn facts_in(alloc: Global, value: &Value) -> Result<Conn, PartFault> {
-    let Some(facts) = value.get("facts") else {
-        return Ok(Conn::of_scheme(ArcStr::from_str(alloc, "http")?));
-    };
-    match conn_of(alloc, facts) {
-        Ok(conn) => Ok(conn),
-        Err(FactsFault::Memory) => Err(PartFault::Memory),
-        Err(FactsFault::Bad) => Err(PartFault::Bad),
+fn facts_in(alloc: Global, value: &Value) -> Result<Conn, PartFault>
+    ensures { IfOk result (λ conn. AreFactsIn (get (codes "facts") (view value.now)) (conn_view conn)) }
+{
+    match value.get("facts") {
+        Some(facts) => match conn_of(alloc, facts) {
+            Ok(conn) => Ok(conn),
+            Err(FactsFault::Memory) => Err(PartFault::Memory),
+            Err(FactsFault::Bad) => Err(PartFault::Bad),
+        },
+        None => {
+            let conn = plain_conn(alloc)?;
+            Ok(conn)
+        }
     }
 }
 

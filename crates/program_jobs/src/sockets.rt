@@ -64,6 +64,25 @@ impl Sockets for HostRuntime {
     }
 }
 
+/// Sockets that are shared.
+impl<F: Sockets> Sockets for &F {
+    ghost connects = { λ sockets. F.connects sockets.now };
+
+    ghost accepts = { λ sockets. F.accepts sockets.now };
+
+    type Stream = F::Stream;
+
+    type Listener = F::Listener;
+
+    fn connect(&self, address: &str) -> io::Result<(F::Stream, F::Stream)> {
+        F::connect(*self, address)
+    }
+
+    fn listen(&self, address: &str) -> io::Result<F::Listener> {
+        F::listen(*self, address)
+    }
+}
+
 impl Listen for TcpListener {
     ghost use Rattle.std.specs.Prelude.{⊤};
 

@@ -135,7 +135,9 @@ fn read_negated(list: &mut RuleList, side: Side, parts: &[&[u8]], depth: u32) ->
     Ok(list.join(place, Joint::Not)?)
 }
 
-// Reads a test of this kind from the run of its member, which has this number, and appends it.
+// Reads a test of this kind from the run of its member, which has this number, and appends it. The frame of a level
+// of rules stays small without it.
+#[inline(never)]
 fn read_test(
     list: &mut RuleList,
     kind: LeafKind,

@@ -1,9 +1,10 @@
 -- A run of the program: the end of a server, the end of any job, and what mistaken words lead to.
-use Rattle.std.specs.Prelude.{◌≡◌, ◌⊎◌, ℕ, Bool, true, List, Option, IsTrue, string_bytes}
+use Rattle.std.specs.Prelude.{◌≡◌, ◌⊎◌, ℕ, Bool, true, List, Option, None, Some, IsTrue, string_bytes}
 use Rattle.std.specs.declared.io.Error.{Error as IoError}
 use Rattle.clap.specs.Words.{Text, kind_of}
 use Rattle.clap.specs.declared.error.Error.{Error}
 use Rattle.ads.specs.Config.{ConfigValue}
+use Rattle.attributes.specs.Conn.{Facts, conn_view}
 use Rattle.stream_pumps.specs.Rounds.{Link}
 use Rattle.command_line.specs.Words.{AreMistaken, IsJobOf}
 use Rattle.command_line.specs.declared.words.Job.{Job}
@@ -13,7 +14,9 @@ use Rattle.program_jobs.specs.declared.job_fault.JobFault.TheVariants as faults
 use Rattle.program_jobs.specs.ServerSettings.{IsSettingsText}
 use Rattle.serve_config.specs.declared.config.ServeConfig.{ServeConfig}
 use Rattle.serve_core.specs.MappedHeadline.{SettingsHeadline}
-use Rattle.serve_core.specs.Turns.{ServerStep}
+use Rattle.serve_core.specs.Turns.{ServerFacts, ServerStep}
+use Rattle.serve_host.specs.Known.{HasKnownFacts}
+use Rattle.serve_host.specs.declared.fault.HostFault.{HostFault}
 use Rattle.serve_loop.specs.History.{is_told}
 use Rattle.program_jobs.specs.Jobs.{ChecksTo, EndsBatch, EndsConfig, EndsControl, EndsProxy, EndsReplay, EndsReport, IsUnread, JudgesTo, LeavesFault, Prints}
 
@@ -27,33 +30,43 @@ abbrev pub EndsUnserved : Option Text → Option Text → Option Text → Option
 EndsUnserved out out_new errors errors_new status = ((status ≡ 2) × (out_new ≡ out))
     ⊎ LeavesFault out out_new errors errors_new status faults.Memory
 
-module _ (hosted : List ServerStep → Type 0) (c : ConfigValue) (settings : ServeConfig)
-    (out out_new errors errors_new : Option Text) (status : ℕ) where
-  -- the end of a server. By this configuration and these settings, the headline holds of all that happened on its wire. It
-  -- was told to end: the status is 0, and nothing is printed. Or it could not go on, or it could not begin
+-- a server with this configuration, by these facts and these settings, ended, with this fault or by being told to. It ran on
+-- a network that was opened by them. The headline holds of all that happened on the wire of that network, and each of its
+-- connections has these facts beside its addresses
+abbrev pub HasHosted : (ServerFacts → ServeConfig → List ServerStep → Type 0) → ConfigValue → ServerFacts → ServeConfig
+    → Option HostFault → Type 0
+HasHosted hosted c conn settings fault = (wire : List ServerStep) × hosted conn settings wire × SettingsHeadline c settings wire
+    × ∥ HasKnownFacts (conn_view conn) wire ∥₁ × (fault ≡ None → is_told wire ≡ true)
+
+module _ (hosted : ServerFacts → ServeConfig → List ServerStep → Type 0) (c : ConfigValue) (conn : ServerFacts)
+    (settings : ServeConfig) (out out_new errors errors_new : Option Text) (status : ℕ) where
+  -- the end of a server. It was told to end: the status is 0, and nothing is printed. Or it could not go on, or it could not
+  -- begin
   pub data EndsHost : Type 0 where
-    told : (wire : List ServerStep) → hosted wire → SettingsHeadline c settings wire → is_told wire ≡ true → status ≡ 0
-        → out_new ≡ out → errors_new ≡ errors → EndsHost
-    stopped : (wire : List ServerStep) → hosted wire → SettingsHeadline c settings wire
+    told : HasHosted hosted c conn settings None → status ≡ 0 → out_new ≡ out → errors_new ≡ errors → EndsHost
+    stopped : (fault : HostFault) → HasHosted hosted c conn settings (Some fault)
         → EndsUnserved out out_new errors errors_new status → EndsHost
     unbegun : EndsUnserved out out_new errors errors_new status → EndsHost
 
-module _ (holds : Text → Text → Type 0) (lacks : (Text × IoError) → Type 0) (hosted : List ServerStep → Type 0)
+module _ (holds : Text → Text → Type 0) (lacks : (Text × IoError) → Type 0)
+    (hosted : ServerFacts → ServeConfig → List ServerStep → Type 0)
     (out out_new errors errors_new : Option Text) (status : ℕ) (path : Text) where
   -- the file at this path holds a text with these settings, and they are printed, if that is asked for. Otherwise a
   -- server ran by them, or could not. Or the fault is printed, or memory ran out
   pub data EndsServe (check : Bool) : Type 0 where
-    meant : (text printed : Text) (c : ConfigValue) (settings : ServeConfig) → holds path text
-        → IsSettingsText text c settings → IsTrue check → Prints out out_new errors errors_new status 0 printed
+    meant : (text printed : Text) (c : ConfigValue) (facts : Facts) (settings : ServeConfig) → holds path text
+        → IsSettingsText text c facts settings → IsTrue check → Prints out out_new errors errors_new status 0 printed
         → EndsServe check
-    served : (text : Text) (c : ConfigValue) (settings : ServeConfig) → holds path text → IsSettingsText text c settings
-        → ¬ IsTrue check → EndsHost hosted c settings out out_new errors errors_new status → EndsServe check
+    served : (text : Text) (c : ConfigValue) (conn : ServerFacts) (settings : ServeConfig) → holds path text
+        → IsSettingsText text c (conn_view conn) settings → ¬ IsTrue check
+        → EndsHost hosted c conn settings out out_new errors errors_new status → EndsServe check
     lacking : (fault : JobFault) → LacksSettings holds lacks path fault
         → LeavesFault out out_new errors errors_new status fault → EndsServe check
     memory : LeavesFault out out_new errors errors_new status faults.Memory → EndsServe check
 
 module _ (holds : Text → Text → Type 0) (lacks : (Text × IoError) → Type 0)
-    (connects accepts : Text → Option Link → Type 0) (hosted : List ServerStep → Type 0) (input : Option Text)
+    (connects accepts : Text → Option Link → Type 0) (hosted : ServerFacts → ServeConfig → List ServerStep → Type 0)
+    (input : Option Text)
     (out out_new errors errors_new : Option Text) (status : ℕ) where
   -- the end of a job
   abbrev pub EndsJob : Job → Type 0

@@ -8,9 +8,11 @@ use std::env::{Env, FillError};
 use std::io::{ErrorKind, Write};
 use std::process::ExitCode;
 use std::{env, io};
+use system::System;
 
 pub mod run;
 pub mod server;
+pub mod system;
 
 // The words of the command line; the first is the program's own name.
 fn words_of<R: Env + AllocGlobal>(rt: &R) -> io::Result<Vec<String>> {
@@ -60,6 +62,14 @@ fn main(rt: HostRuntime) -> ExitCode {
         }
     };
     let mut out = io::writer(&rt);
-    let status = run(rt.alloc(), &words, &rt, rt.reader(), &mut out, &mut errors);
+    let system = System::of(&rt);
+    let status = run(
+        rt.alloc(),
+        &words,
+        &system,
+        rt.reader(),
+        &mut out,
+        &mut errors,
+    );
     ExitCode::from(status)
 }

@@ -1,55 +1,71 @@
 //! The job that serves connections until it is to end.
-ghost use Rattle.std.specs.Prelude.{◌≡◌, ℕ, List, None, true, IfErr, IfOk, string_bytes};
-ghost use Rattle.rbacd.specs.Run.{EndsHost, EndsServe, EndsUnserved, LacksSettings};
+ghost use Rattle.std.specs.Prelude.{◌≡◌, ℕ, List, [], None, true, IfErr, IfOk, string_bytes};
+ghost use Rattle.attributes.specs.Conn.{conn_view};
+ghost use Rattle.rbacd.specs.Run.{EndsHost, EndsServe, EndsUnserved, HasHosted, LacksSettings};
 ghost use Rattle.program_jobs.specs.ServerSettings.{IsSettingsText};
 ghost use Rattle.program_jobs.specs.private.Stopping.{MemoryOrStop};
+ghost use Rattle.serve_config.specs.declared.config.ServeConfig.{ServeConfig};
 ghost use Rattle.serve_core.specs.MappedHeadline.{SettingsHeadline};
-ghost use Rattle.serve_core.specs.Turns.{ServerStep};
+ghost use Rattle.serve_core.specs.Turns.{ServerFacts, ServerStep};
+ghost use Rattle.serve_host.specs.Known.{HasKnownFacts};
 ghost use Rattle.serve_loop.specs.History.{is_told};
-ghost use Rattle.serve_loop.specs.Law.{wire_of};
 
+use ads::Config;
+use attributes::Conn;
 use command_line::ServeWords;
 use program_jobs::{
     JobFault, MISTAKE, ServerSettings, ServerSettingsFault, Source, end_by, end_by_memory,
     read_file, read_server_settings, server_settings_text, show, write_error,
 };
 use rbac_judge::Notes;
-use serve_host::{EndedServer, HostFault, host};
+use serve_config::ServeConfig;
+use serve_host::{EndedServer, HostFault};
+use serve_loop::Network;
 use std::alloc::{AllocError, Global};
 use std::io::Write;
 
-/// What can run a server.
+/// What can run a server: it opens a network, serves on it, and takes it back.
 pub trait Hosts {
-    /// This is all that happened on the wire of a server that ran.
-    ghost hosted: { Self → List ServerStep → Type 0 };
+    /// The network of a server.
+    type Network: Network<Conn>;
 
-    /// Serves by these settings until the server is to end. Fails if it cannot begin.
-    fn host(&self, alloc: Global, server_settings: ServerSettings) -> Result<EndedServer, HostFault>
-        ensures hosted { IfOk result (λ ended. hosted self.now (wire_of ended.trace.turns)) }
-        ensures headline { IfOk result (λ ended. SettingsHeadline server_settings.config server_settings.settings
-            (wire_of ended.trace.turns)) }
-        ensures told { IfOk result (λ ended. ended.fault ≡ None → is_told (wire_of ended.trace.turns) ≡ true) };
-}
+    /// This network is one that was opened by these facts and settings.
+    ghost opened: { Self → ServerFacts → ServeConfig → Self.Network → Type 0 };
 
-/// The server of the system. Proofs assume nothing about what its sockets gave and took.
-impl Hosts for HostRuntime {
-    ghost use Rattle.std.specs.Prelude.{⊤};
+    /// This is all that happened on the wire of a network that was opened by these facts and settings, until it was taken
+    /// back.
+    ghost hosted: { Self → ServerFacts → ServeConfig → List ServerStep → Type 0 };
 
-    ghost hosted = { λ _ _. ⊤ };
-
-    fn host(
+    /// Opens the network of these settings, to which nothing happened. These facts are known of every connection.
+    fn open(
         &self,
         alloc: Global,
-        server_settings: ServerSettings,
-    ) -> Result<EndedServer, HostFault> {
-        host(
-            alloc,
-            self,
-            server_settings.config,
-            server_settings.conn,
-            server_settings.settings,
-        )
-    }
+        conn: Conn,
+        settings: &ServeConfig,
+    ) -> Result<Self::Network, HostFault>
+        ensures wire { IfOk result (λ network. Self.Network.wire network ≡ []) }
+        ensures opened { IfOk result (λ network. opened self.now conn settings.now network) };
+
+    /// Serves on this network by these settings until the server is to end. Fails if it cannot begin.
+    fn serve(
+        &self,
+        alloc: Global,
+        config: &Config,
+        settings: &ServeConfig,
+        network: Self::Network,
+    ) -> Result<EndedServer<Self::Network>, HostFault>
+        requires { Self.Network.wire network ≡ [] }
+        ensures headline { IfOk result (λ ended. SettingsHeadline config.now settings.now (Self.Network.wire ended.network)) }
+        ensures opened { (conn : ServerFacts) (by : ServeConfig) → opened self.now conn by network
+            → IfOk result (λ ended. opened self.now conn by ended.network) }
+        ensures told { IfOk result (λ ended. ended.fault ≡ None → is_told (Self.Network.wire ended.network) ≡ true) };
+
+    /// Takes back a network.
+    fn close(&self, network: Self::Network)
+        ensures hosted { (conn : ServerFacts) (settings : ServeConfig) → opened self.now conn settings network
+            → hosted self.now conn settings (Self.Network.wire network) }
+        ensures facts { (conn : ServerFacts) (settings : ServeConfig) → opened self.now conn settings network
+            → ∥ HasKnownFacts (conn_view conn) (Self.Network.wire network) ∥₁ };
 }
 
 /// Serves by the settings in the file, or prints what they mean. Returns the status.
@@ -87,16 +103,38 @@ fn served<F: Hosts, W: Write, E: Write>(
     out: &mut W,
     errors: &mut E,
 ) -> u8
-    ensures { EndsHost (F.hosted system.now) server_settings.config server_settings.settings (W.contents out.old)
-        (W.contents out.new) (E.contents errors.old) (E.contents errors.new) result }
+    ensures { EndsHost (F.hosted system.now) server_settings.config server_settings.conn server_settings.settings
+        (W.contents out.old) (W.contents out.new) (E.contents errors.old) (E.contents errors.new) result }
 {
-    match system.host(alloc, server_settings) {
-        Ok(ended) => match ended.into_fault() {
+    match host(alloc, system, server_settings) {
+        Ok(ended) => match ended {
             None => 0,
             Some(fault) => end_by_host(alloc, fault, out, errors),
         },
         Err(fault) => end_by_host(alloc, fault, out, errors),
     }
+}
+
+// Serves on a network that is opened by these settings, and gives it back. Returns why the server could not go on; none
+// if it was told to end. Fails if it cannot begin.
+fn host<F: Hosts>(
+    alloc: Global,
+    system: &F,
+    server_settings: ServerSettings,
+) -> Result<Option<HostFault>, HostFault>
+    ensures { IfOk result (HasHosted (F.hosted system.now) server_settings.config server_settings.conn
+        server_settings.settings) }
+{
+    let ServerSettings {
+        config,
+        conn,
+        settings,
+    } = server_settings;
+    let network = system.open(alloc, conn, &settings)?;
+    let ended = system.serve(alloc, &config, &settings, network)?;
+    let (network, fault) = ended.into_parts();
+    system.close(network);
+    Ok(fault)
 }
 
 // Prints why a server cannot begin, or cannot go on. Returns the status.
@@ -126,7 +164,7 @@ fn server_settings_in<F: Source>(
     notes: &mut Notes,
 ) -> Result<ServerSettings, JobFault>
     ensures found { IfOk result (λ it. (text : List ℕ) × F.holds files.now path.now text
-        × IsSettingsText text it.config it.settings) }
+        × IsSettingsText text it.config (conn_view it.conn) it.settings) }
     ensures fault { IfErr result (MemoryOrStop
         (LacksSettings (F.holds files.now) (F.lacks files.now) path.now)) }
 {

@@ -1,3 +1,4 @@
+mod KnownLemmas
 mod LeastTimes
 mod PieceLemmas
 mod Requests

@@ -1,5 +1,5 @@
 //! The connections of the admin port.
-ghost use Rattle.std.specs.Prelude.{◌≡◌, true, false, None};
+ghost use Rattle.std.specs.Prelude.{◌≡◌, [], true, false, None, IfOk};
 ghost use Rattle.serve_host.specs.Earliest.{IsEarliest};
 
 use crate::admin_stream::{AdminStream, Next};
@@ -31,7 +31,9 @@ pub(crate) struct AdminReady {
 
 impl AdminReady {
     /// Nothing is to be done.
-    pub(crate) fn new(alloc: Global) -> AdminReady {
+    pub(crate) fn new(alloc: Global) -> AdminReady
+        ensures { (result.waits ≡ false) × (result.due.items ≡ []) }
+    {
         AdminReady {
             waits: false,
             due: Vec::new(alloc),
@@ -49,7 +51,9 @@ pub(crate) struct AdminPort {
 
 impl AdminPort {
     /// No connection is open. The keys are secret.
-    pub(crate) fn new(alloc: Global, keys: RandomState) -> Result<AdminPort, AllocError> {
+    pub(crate) fn new(alloc: Global, keys: RandomState) -> Result<AdminPort, AllocError>
+        ensures { IfOk result (λ port. port.keys ≡ keys) }
+    {
         Ok(AdminPort {
             alloc,
             keys,

@@ -1,4 +1,5 @@
 //! A connection to the admin port.
+ghost use Rattle.std.specs.Prelude.{◌≡◌, ◌<◌, ◌-◌, ◌↔◌, false, IsTrue};
 
 use serve_admin::{Admin, AdminConnection};
 use serve_net::NetStream;
@@ -36,7 +37,10 @@ pub(crate) enum Next {
 
 impl AdminStream {
     /// A connection over this stream, opened at this time, in milliseconds since a fixed time.
-    pub(crate) fn new(stream: NetStream, connection: AdminConnection, since: u64) -> AdminStream {
+    pub(crate) fn new(stream: NetStream, connection: AdminConnection, since: u64) -> AdminStream
+        ensures over { (result.stream ≡ stream) × (result.connection ≡ connection) }
+        ensures opened { (result.since ≡ since) × (result.heard ≡ since) × (result.lingers ≡ false) }
+    {
         AdminStream {
             stream,
             connection,
@@ -47,12 +51,16 @@ impl AdminStream {
     }
 
     /// Whether it was opened so many milliseconds ago, or earlier.
-    pub(crate) fn is_older(&self, than: u64, now: u64) -> bool {
+    pub(crate) fn is_older(&self, than: u64, now: u64) -> bool
+        ensures { IsTrue result ↔ than < now - self.now.since }
+    {
         now.saturating_sub(self.since) > than
     }
 
     /// When it was last heard.
-    pub(crate) fn heard(&self) -> u64 {
+    pub(crate) fn heard(&self) -> u64
+        ensures { result ≡ self.now.heard }
+    {
         self.heard
     }
 

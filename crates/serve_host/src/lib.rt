@@ -7,6 +7,7 @@ mod descriptors;
 mod errors;
 mod facts;
 mod fault;
+mod history;
 mod loop_settings;
 mod network;
 mod piece;
@@ -18,4 +19,6 @@ mod times;
 mod upkeep;
 
 pub use fault::HostFault;
-pub use process::{EndedServer, host};
+pub use network::HostNetwork;
+pub use process::{open_network, serve_on};
+pub use serving::EndedServer;

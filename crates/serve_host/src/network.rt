@@ -1,29 +1,30 @@
 //! The sockets of the system as the network of a server.
 ghost use Rattle.std.specs.Prelude.{◌≡◌, [], IfOk};
+ghost use Rattle.attributes.specs.Conn.{conn_view};
+ghost use Rattle.serve_core.specs.Turns.{ServerFacts};
+ghost use Rattle.serve_host.specs.Known.{AreKnownFacts};
 ghost use Rattle.serve_loop.specs.Law.{wire_of};
 
 use crate::admin_port::{AdminPort, AdminReady};
 use crate::facts::conn_of;
+use crate::history::History;
 use crate::streams::HostStreams;
 use attributes::Conn;
 use serve_admin::Admin;
 use serve_loop::{CloseReason, Event, Network, Ready, Stream, Waited};
 use serve_net::{Look, Sockets};
 use serve_observe::micros;
-use serve_trace::{Note, Trace};
+use serve_trace::Note;
 use std::alloc::{AllocError, Global};
-use std::fs::Files;
-use std::io::{self, Input};
-use std::net::Net;
-use std::rt::Clock;
+use std::fs::File;
+use std::io;
 
-/// The sockets of the system, the streams that are open, and what is known of every connection. Its trace has what its
+/// The sockets of the system, the streams that are open, and what is known of every connection. Its history has what its
 /// methods gave and took.
 #[derive(Drop)]
-pub(crate) struct HostNetwork<'r, R: Net + Files + Clock + Input> {
+pub struct HostNetwork<'r> {
     alloc: Global,
-    sockets: Sockets<'r, R>,
-    conn: Conn,
+    sockets: Sockets<'r, HostRuntime>,
     streams: HostStreams,
     found: Vec<serve_net::Ready>,
     // what is to be done at the admin port
@@ -34,39 +35,41 @@ pub(crate) struct HostNetwork<'r, R: Net + Files + Clock + Input> {
     is_told: bool,
     // when the sockets were opened, in milliseconds
     begin: u64,
-    trace: Trace<Conn>,
+    // files that are kept open as long as the sockets are
+    kept: Vec<File>,
+    history: History,
 }
 
-impl<'r, R: Net + Files + Clock + Input> HostNetwork<'r, R> {
+impl<'r> HostNetwork<'r> {
     /// The network of these sockets, with so many places. Its connections all have these facts beside their addresses.
     pub(crate) fn new(
         alloc: Global,
-        rt: &R,
-        sockets: Sockets<'r, R>,
+        rt: &HostRuntime,
+        sockets: Sockets<'r, HostRuntime>,
         conn: Conn,
         places: usize,
-    ) -> Result<HostNetwork<'r, R>, AllocError>
-        ensures { IfOk result (λ network. network.trace.turns ≡ []) }
+    ) -> Result<HostNetwork<'r>, AllocError>
+        ensures { IfOk result (λ network. (network.history.trace.turns ≡ []) × (network.history.conn ≡ conn)) }
     {
         Ok(HostNetwork {
             alloc,
             sockets,
-            conn,
             streams: HostStreams::new(alloc, places)?,
             found: Vec::new(alloc),
             admin_ready: AdminReady::new(alloc),
             drains: false,
             is_told: false,
             begin: micros(rt) / 1_000,
-            trace: Trace::new(),
+            kept: Vec::new(alloc),
+            history: History::new(conn),
         })
     }
 
-    /// What happened on the wire. All sockets are closed.
-    pub(crate) fn into_trace(self) -> Trace<Conn>
-        ensures { result.turns ≡ self.entry.trace.turns }
+    /// Keeps these files open as long as its sockets are.
+    pub(crate) fn keep(&mut self, files: Vec<File>)
+        ensures { self.new.history ≡ self.old.history }
     {
-        self.trace
+        self.kept = files;
     }
 
     /// Gives a turn to the connections of the admin port. Times are in milliseconds since a fixed time.
@@ -76,7 +79,7 @@ impl<'r, R: Net + Files + Clock + Input> HostNetwork<'r, R> {
         admin: &mut Admin,
         now: u64,
     ) -> Result<(), AllocError>
-        ensures { self.new.trace ≡ self.old.trace }
+        ensures { self.new.history ≡ self.old.history }
     {
         port.turn(&mut self.sockets, &mut self.admin_ready, admin, now)
     }
@@ -88,14 +91,14 @@ impl<'r, R: Net + Files + Clock + Input> HostNetwork<'r, R> {
 
     /// What the last look at the control plane's file found, if that is to be reported and was not taken yet.
     pub(crate) fn take_look(&mut self) -> Option<Look>
-        ensures { self.new.trace ≡ self.old.trace }
+        ensures { self.new.history ≡ self.old.history }
     {
         self.sockets.take_look()
     }
 
     // Waits, and sorts what is ready: the loop's, and the admin port's. Returns the time.
     fn look(&mut self, most: u64, ready: &mut Vec<Ready>) -> io::Result<u64>
-        ensures { self.new.trace ≡ self.old.trace }
+        ensures { self.new.history ≡ self.old.history }
     {
         self.found.clear();
         let is_due = !self.admin_ready.due.is_empty() || (self.drains && !self.is_told);
@@ -106,7 +109,7 @@ impl<'r, R: Net + Files + Clock + Input> HostNetwork<'r, R> {
     }
 
     fn sort(&mut self, ready: &mut Vec<Ready>) -> Result<(), AllocError>
-        ensures { self.new.trace ≡ self.old.trace }
+        ensures { self.new.history ≡ self.old.history }
     {
         for found in &self.found {
             match *found {
@@ -123,24 +126,29 @@ impl<'r, R: Net + Files + Clock + Input> HostNetwork<'r, R> {
 
     // Accepts the next connection in a place.
     fn open(&mut self, k: usize) -> io::Result<Conn>
-        ensures { self.new.trace ≡ self.old.trace }
+        ensures history { self.new.history ≡ self.old.history }
+        ensures facts { IfOk result (AreKnownFacts (conn_view self.old.history.conn)) }
     {
         let accepted = self.sockets.accept(k)?;
-        let conn = conn_of(self.alloc, &self.conn, &accepted)?;
+        let conn = conn_of(self.alloc, self.history.conn(), &accepted)?;
         self.streams.open(k, accepted.stream);
         Ok(conn)
     }
 }
 
-impl<R: Net + Files + Clock + Input> Network<Conn> for HostNetwork<'_, R> {
-    ghost wire = { λ n. wire_of n.trace.turns };
+impl Network<Conn> for HostNetwork<'_> {
+    ghost wire = { λ n. wire_of n.history.trace.turns };
+
+    ghost Setup = { ServerFacts };
+
+    ghost setup = { λ n. n.history.conn };
 
     fn wait(&mut self, most: u64, ready: &mut Vec<Ready>) -> io::Result<Waited> {
         let now = self.look(most, ready)?;
         let drains = self.drains && !self.is_told;
         if drains {
             self.is_told = true;
-            self.trace = self.trace.then(&Note::Took(&Event::Drain));
+            self.history.note(&Note::Took(&Event::Drain));
         }
         Ok(Waited { now, drains })
     }
@@ -148,7 +156,7 @@ impl<R: Net + Files + Clock + Input> Network<Conn> for HostNetwork<'_, R> {
     fn accept(&mut self, k: usize) -> io::Result<Conn> {
         match self.open(k) {
             Ok(conn) => {
-                self.trace = self.trace.then(&Note::Took(&Event::Accepted(k, &conn)));
+                self.history.note(&Note::Took(&Event::Accepted(k, &conn)));
                 Ok(conn)
             }
             Err(error) => Err(error),
@@ -159,7 +167,7 @@ impl<R: Net + Files + Clock + Input> Network<Conn> for HostNetwork<'_, R> {
         match self.sockets.connect() {
             Ok(stream) => {
                 self.streams.connect(stream);
-                self.trace = self.trace.then(&Note::Took(&Event::Connected));
+                self.history.note(&Note::Took(&Event::Connected));
                 Ok(())
             }
             Err(error) => Err(error),
@@ -172,9 +180,8 @@ impl<R: Net + Files + Clock + Input> Network<Conn> for HostNetwork<'_, R> {
                 if count == 0 {
                     return Ok(0);
                 }
-                self.trace = self
-                    .trace
-                    .then(&Note::Took(&Event::Received(stream, &room[..count])));
+                self.history
+                    .note(&Note::Took(&Event::Received(stream, &room[..count])));
                 Ok(count)
             }
             Err(error) => Err(error),
@@ -184,7 +191,7 @@ impl<R: Net + Files + Clock + Input> Network<Conn> for HostNetwork<'_, R> {
     fn write(&mut self, stream: Stream, bytes: &[u8]) -> io::Result<usize> {
         match self.streams.write(stream, bytes) {
             Ok(count) => {
-                self.trace = self.trace.then(&Note::Sent(stream, &bytes[..count]));
+                self.history.note(&Note::Sent(stream, &bytes[..count]));
                 Ok(count)
             }
             Err(error) => Err(error),
@@ -197,8 +204,7 @@ impl<R: Net + Files + Clock + Input> Network<Conn> for HostNetwork<'_, R> {
 
     fn close(&mut self, stream: Stream) {
         self.streams.close(stream);
-        self.trace = self
-            .trace
-            .then(&Note::Took(&Event::Closed(stream, CloseReason::Served)));
+        self.history
+            .note(&Note::Took(&Event::Closed(stream, CloseReason::Served)));
     }
 }

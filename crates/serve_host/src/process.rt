@@ -1,5 +1,5 @@
-//! Runs a server until it is to end.
-ghost use Rattle.std.specs.Prelude.{◌≡◌, [], None, true, IfOk, OnOk};
+//! Opens the network of a server, and serves on it until the server is to end.
+ghost use Rattle.std.specs.Prelude.{◌≡◌, [], None, true, IfOk};
 ghost use Rattle.serve_loop.specs.History.{is_told};
 ghost use Rattle.serve_loop.specs.Law.{wire_of};
 ghost use Rattle.serve_core.specs.MappedHeadline.{SettingsHeadline};
@@ -9,7 +9,7 @@ use crate::descriptors::{fitting, open_files};
 use crate::errors::{errors_of, taken_streams};
 use crate::fault::HostFault;
 use crate::network::HostNetwork;
-use crate::serving::{Surroundings, UsedNetwork, serve_by};
+use crate::serving::{EndedServer, Surroundings, serve_by};
 use crate::upkeep::HostUpkeep;
 use ads::Config;
 use attributes::Conn;
@@ -18,43 +18,52 @@ use serve_config::{Record, ServeConfig};
 use serve_log::{LogFile, RecordSettings, Recorder};
 use serve_net::Sockets;
 use serve_observe::{Accesses, Logs, Observers, unix_millis};
-use serve_trace::Trace;
 use std::alloc::{AllocError, Global};
 use std::hash::RandomState;
 use std::io::Write;
 
-/// A server that ended.
-#[derive(Drop)]
-pub struct EndedServer {
-    // why it could not go on; none if it was told to end
-    fault: Option<HostFault>,
-    // what happened on the wire of its network, for proofs alone
-    trace: Trace<Conn>,
-}
-
-impl EndedServer {
-    /// Why it could not go on; none if it was told to end.
-    pub fn into_fault(self) -> Option<HostFault>
-        ensures { result ≡ self.fault }
-    {
-        self.fault
-    }
-}
-
-/// Serves with this configuration of the proxy and by these settings until the server is to end. Then it serves until its
-/// connections have ended, for at most the drain time. These facts are known of every connection. The headline by these
-/// settings holds of all that happened on the wire. An error says why it could not begin.
-pub fn host(
+/// The sockets of these settings, as a network to which nothing happened. These facts are known of every connection.
+pub fn open_network<'r>(
     alloc: Global,
-    rt: &HostRuntime,
-    config: Config,
+    rt: &'r HostRuntime,
     conn: Conn,
-    settings: ServeConfig,
-) -> Result<EndedServer, HostFault>
-    ensures headline { IfOk result (λ ended. SettingsHeadline config settings (wire_of ended.trace.turns)) }
-    ensures told { IfOk result (λ ended. ended.fault ≡ None → is_told (wire_of ended.trace.turns) ≡ true) }
+    settings: &ServeConfig,
+) -> Result<HostNetwork<'r>, HostFault>
+    ensures wire { IfOk result (λ network. network.history.trace.turns ≡ []) }
+    ensures facts { IfOk result (λ network. network.history.conn ≡ conn) }
 {
-    host_by(alloc, rt, &config, conn, &settings)
+    let taken = taken_streams(alloc, rt)?;
+    report_limit(rt, settings);
+    let sockets = Sockets::open(alloc, rt, settings)?;
+    let mut network = HostNetwork::new(alloc, rt, sockets, conn, settings.connections)?;
+    network.keep(taken);
+    Ok(network)
+}
+
+/// Serves on this network with this configuration of the proxy and by these settings until the server is to end. Then it
+/// serves until its connections have ended, for at most the drain time. The headline by these settings holds of all that
+/// happened on its wire, and its facts are those that it was opened with. An error says why it could not begin.
+pub fn serve_on<'r>(
+    alloc: Global,
+    rt: &'r HostRuntime,
+    config: &Config,
+    settings: &ServeConfig,
+    network: HostNetwork<'r>,
+) -> Result<EndedServer<HostNetwork<'r>>, HostFault>
+    requires { wire_of network.history.trace.turns ≡ [] }
+    ensures headline { IfOk result (λ ended. SettingsHeadline config.now settings.now
+        (wire_of ended.network.history.trace.turns)) }
+    ensures setup { IfOk result (λ ended. ended.network.history.conn ≡ network.entry.history.conn) }
+    ensures told { IfOk result (λ ended. ended.fault ≡ None → is_told (wire_of ended.network.history.trace.turns) ≡ true) }
+{
+    let observers = observers_of(alloc, rt, config, settings)?;
+    let upkeep = upkeep_of(alloc, rt, settings)?;
+    let surroundings = Surroundings {
+        network,
+        observers,
+        upkeep,
+    };
+    Ok(serve_by(alloc, config, settings, surroundings)?)
 }
 
 // Says so on standard error if the system's limit of open files leaves room for fewer connections than are set.
@@ -73,61 +82,7 @@ fn report_limit(rt: &HostRuntime, settings: &ServeConfig) {
     }
 }
 
-// The same, by settings that live as long as the server.
-fn host_by<'m, 'r>(
-    alloc: Global,
-    rt: &'r HostRuntime,
-    config: &Config,
-    conn: Conn,
-    settings: &'m ServeConfig,
-) -> Result<EndedServer, HostFault>
-    ensures headline { IfOk result (λ ended. SettingsHeadline config.now settings.now (wire_of ended.trace.turns)) }
-    ensures told { IfOk result (λ ended. ended.fault ≡ None → is_told (wire_of ended.trace.turns) ≡ true) }
-{
-    let _streams = taken_streams(alloc, rt)?;
-    report_limit(rt, settings);
-    let network = network_of(alloc, rt, conn, settings)?;
-    let observers = observers_of(alloc, rt, config, settings)?;
-    let upkeep = upkeep_of(alloc, rt, settings)?;
-    let surroundings = Surroundings {
-        network,
-        observers,
-        upkeep,
-    };
-    Ok(ended_of(serve_by(alloc, config, settings, surroundings)?))
-}
-
-// The end of a server that used this network.
-fn ended_of<'r>(used: UsedNetwork<HostNetwork<'r, HostRuntime>>) -> EndedServer
-    requires { OnOk used.served (is_told (wire_of used.network.trace.turns) ≡ true) }
-    ensures trace { result.trace.turns ≡ used.entry.network.trace.turns }
-    ensures told { result.fault ≡ None → is_told (wire_of result.trace.turns) ≡ true }
-{
-    let UsedNetwork { network, served } = used;
-    let trace = network.into_trace();
-    match served {
-        Ok(()) => EndedServer { fault: None, trace },
-        Err(fault) => EndedServer {
-            fault: Some(fault),
-            trace,
-        },
-    }
-}
-
 type HostObservers<'r> = Observers<'r, HostRuntime, &'r HostRuntime>;
-
-// The sockets of these settings, of which nothing was used yet.
-fn network_of<'r>(
-    alloc: Global,
-    rt: &'r HostRuntime,
-    conn: Conn,
-    settings: &ServeConfig,
-) -> Result<HostNetwork<'r, HostRuntime>, HostFault>
-    ensures { IfOk result (λ network. network.trace.turns ≡ []) }
-{
-    let sockets = Sockets::open(alloc, rt, settings)?;
-    Ok(HostNetwork::new(alloc, rt, sockets, conn, settings.connections)?)
-}
 
 // Those who see what happens: the status, the metrics and the logs.
 fn observers_of<'r>(

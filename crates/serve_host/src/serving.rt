@@ -1,5 +1,5 @@
 //! Serves by settings, over any network.
-ghost use Rattle.std.specs.Prelude.{◌≡◌, [], true, IfOk, OnOk};
+ghost use Rattle.std.specs.Prelude.{◌≡◌, [], None, true, IfOk, OnOk};
 ghost use Rattle.serve_loop.specs.History.{is_told};
 ghost use Rattle.serve_loop.specs.Law.{Belong, GoesOn};
 ghost use Rattle.serve_core.specs.MappedHeadline.{SettingsHeadline};
@@ -25,16 +25,27 @@ pub(crate) struct Surroundings<N, O, U> {
     pub(crate) upkeep: U,
 }
 
-/// A network after a server used it, and why the server could not go on, if it could not.
+/// A server that ended, with its network.
 #[derive(Drop)]
-pub(crate) struct UsedNetwork<N> {
-    pub(crate) network: N,
-    pub(crate) served: Result<(), HostFault>,
+pub struct EndedServer<N> {
+    network: N,
+    // why it could not go on; none if it was told to end
+    fault: Option<HostFault>,
+}
+
+impl<N> EndedServer<N> {
+    /// Its network, and why it could not go on; none if it was told to end.
+    pub fn into_parts(self) -> (N, Option<HostFault>)
+        ensures { (result.0 ≡ self.network) × (result.1 ≡ self.fault) }
+    {
+        let EndedServer { network, fault } = self;
+        (network, fault)
+    }
 }
 
 /// Serves with this configuration and by these settings until the server is to end. Over any network to which nothing
-/// has happened, the headline holds of all that happens on its wire. It ends without a fault only after the network said
-/// that it is to end. The error is out of memory before it begins.
+/// has happened, the headline holds of all that happens on its wire. What it was opened by stays. It ends without a fault
+/// only after the network said that it is to end. The error is out of memory before it begins.
 pub(crate) fn serve_by<
     'm,
     N: Network<Conn>,
@@ -45,11 +56,12 @@ pub(crate) fn serve_by<
     config: &Config,
     settings: &'m ServeConfig,
     surroundings: Surroundings<N, O, U>,
-) -> Result<UsedNetwork<N>, AllocError>
+) -> Result<EndedServer<N>, AllocError>
     requires wire { N.wire surroundings.network ≡ [] }
     requires seen { O.seen surroundings.observers ≡ [] }
-    ensures headline { IfOk result (λ used. SettingsHeadline config.now settings.now (N.wire used.network)) }
-    ensures told { IfOk result (λ used. OnOk used.served (is_told (N.wire used.network) ≡ true)) }
+    ensures headline { IfOk result (λ ended. SettingsHeadline config.now settings.now (N.wire ended.network)) }
+    ensures setup { IfOk result (λ ended. N.setup ended.network ≡ N.setup surroundings.network) }
+    ensures told { IfOk result (λ ended. ended.fault ≡ None → is_told (N.wire ended.network) ≡ true) }
 {
     let Surroundings {
         network,
@@ -61,10 +73,25 @@ pub(crate) fn serve_by<
     let board = Board::new(alloc, places, network, service, observers)?;
     let server = Server::new(alloc, places, board, &loop_settings(settings))?;
     let (server, served) = run(server, upkeep);
-    Ok(UsedNetwork {
-        network: server.into_network(),
-        served,
-    })
+    Ok(ended_of(server.into_network(), served))
+}
+
+// The end of a server on this network.
+fn ended_of<N: Network<Conn>>(network: N, served: Result<(), HostFault>) -> EndedServer<N>
+    requires { OnOk served (is_told (N.wire network) ≡ true) }
+    ensures network { result.network ≡ network }
+    ensures told { result.fault ≡ None → is_told (N.wire result.network) ≡ true }
+{
+    match served {
+        Ok(()) => EndedServer {
+            network,
+            fault: None,
+        },
+        Err(fault) => EndedServer {
+            network,
+            fault: Some(fault),
+        },
+    }
 }
 
 // The core by these settings, to which nothing happened yet.
@@ -92,7 +119,7 @@ fn run<
     mut upkeep: U,
 ) -> (Server<Conn, N, S, O>, Result<(), HostFault>)
     ensures told { OnOk result.1 (is_told (N.wire result.0.board.parties.network) ≡ true) }
-    ensures goes_on { GoesOn S.turns S.setup server.board.parties.service result.0.board.parties.service }
+    ensures goes_on { GoesOn N.setup S.turns S.setup server.board.parties result.0.board.parties }
 {
     let served = serve(&mut server, &mut upkeep);
     (server, served)
@@ -109,7 +136,7 @@ fn serve<
     ensures told { OnOk result (is_told (N.wire server.new.board.parties.network) ≡ true) }
     ensures law { ∥ Belong (N.wire server.new.board.parties.network) (S.turns server.new.board.parties.service)
         (O.seen server.new.board.parties.observer) ∥₁ }
-    ensures goes_on { GoesOn S.turns S.setup server.old.board.parties.service server.new.board.parties.service }
+    ensures goes_on { GoesOn N.setup S.turns S.setup server.old.board.parties server.new.board.parties }
 {
     for _ in 0..u64::MAX {
         let goes_on = server.turn().map_err(HostFault::Wait)?;

@@ -1,5 +1,6 @@
 //! The streams of the system that are open.
-ghost use Rattle.std.specs.Prelude.{◌≤◌, length, IfOk};
+ghost use Rattle.std.specs.Prelude.{◌≡◌, ◌≤◌, Some, length, IfOk};
+ghost use Rattle.std.specs.IoError.{error_kind};
 
 use crate::request_reader::RequestReader;
 use serve_loop::Stream;
@@ -31,7 +32,9 @@ impl HostStreams {
     }
 
     /// The stream of updates opens.
-    pub(crate) fn connect(&mut self, stream: NetStream) {
+    pub(crate) fn connect(&mut self, stream: NetStream)
+        ensures { self.new.updates ≡ Some stream }
+    {
         self.updates = Some(stream);
     }
 
@@ -91,6 +94,8 @@ impl HostStreams {
 }
 
 // The fault of a stream that is not open.
-fn closed() -> io::Error {
+fn closed() -> io::Error
+    ensures { error_kind result ≡ ErrorKind.NotConnected }
+{
     io::Error::from(ErrorKind::NotConnected)
 }

@@ -1,6 +1,6 @@
 //! What is done between the turns of the loop: the admin port is served, logs are written, and the status is brought up
 //! to date.
-ghost use Rattle.std.specs.Prelude.{◌≡◌};
+ghost use Rattle.std.specs.Prelude.{◌≡◌, None, Some, false};
 ghost use Rattle.serve_host.specs.Looks.{after_look};
 
 use crate::admin_port::AdminPort;
@@ -52,7 +52,9 @@ impl<'r, R: Files> HostUpkeep<'r, R> {
         port: AdminPort,
         errors: LogWriter,
         record: Option<String>,
-    ) -> HostUpkeep<'r, R> {
+    ) -> HostUpkeep<'r, R>
+        ensures { (result.lacks_memory ≡ false) × (result.missed ≡ None) × (result.reported ≡ None) }
+    {
         HostUpkeep {
             rt,
             port,
@@ -108,7 +110,9 @@ impl<'r, R: Files> HostUpkeep<'r, R> {
     }
 
     // Reports why a connection could not be accepted.
-    fn complain(&mut self, cause: &io::Error, now: u64) {
+    fn complain(&mut self, cause: &io::Error, now: u64)
+        ensures { self.new.reported ≡ Some now }
+    {
         self.reported = Some(now);
         let _ = writeln!(self.errors, "cannot accept connections: {cause}");
     }
@@ -128,13 +132,13 @@ impl<'r, R: Files> UsesMemory for HostUpkeep<'r, R> {
 
 impl<'m, 'r, R: Net + Files + Clock + Input, F: LogFiles + Drop> Upkeep<
     Conn,
-    HostNetwork<'r, R>,
+    HostNetwork<'r>,
     Served<'m>,
     Observers<'r, R, F>,
 > for HostUpkeep<'r, R> {
     fn turn(
         &mut self,
-        network: &mut HostNetwork<'r, R>,
+        network: &mut HostNetwork<'r>,
         _service: &Served<'m>,
         observer: &mut Observers<'r, R, F>,
         now: u64,

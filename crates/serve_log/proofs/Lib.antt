@@ -1,2 +1,9 @@
+mod BeginningLemmas
+mod FileLemmas
+mod FileListLemmas
 mod IpGroups
+mod OpenLemmas
+mod PieceLemmas
 mod PutFacts
+mod RecorderLemmas
+mod StayLemmas

@@ -1,5 +1,8 @@
 //! A file of a record.
-ghost use Rattle.std.specs.Prelude.{◌≡◌, ◌+◌, ◌-◌, ◌^◌, min};
+ghost use Rattle.std.specs.Prelude.{◌≡◌, ◌↔◌, [], ◌∷◌, false, true, IfSome, IsNone, IsTrue, OnErr, OnOk};
+ghost use Rattle.proxy_core.specs.Events.{EventValue};
+ghost use Rattle.serve_log.specs.Files.{IsSameFile, IsTextOf, Takes, counted, lost_at, users_after};
+ghost use Rattle.serve_log.specs.Lines.{event_text};
 
 use crate::appender::Appender;
 use crate::faults::{Fault, LogFaults};
@@ -11,6 +14,15 @@ const MANY: usize = 65_536;
 
 // How many writes are tried for the lines that wait.
 const MOST_WRITES: usize = 10_000;
+
+/// How the number of connections that need a file changes.
+#[derive(Clone, Copy)]
+pub(crate) enum UserChange {
+    /// One more needs it.
+    More,
+    /// One less needs it.
+    Less,
+}
 
 /// A file of a record. It has no gap: after a line that is lost it gets no other.
 #[derive(Drop)]
@@ -28,7 +40,10 @@ pub(crate) struct RecordFile<W: Drop> {
 
 impl<W: Write + Drop> RecordFile<W> {
     /// A file with this number, counted from 1, that has no line.
-    pub(crate) fn new(alloc: Global, number: u64, writer: W) -> RecordFile<W> {
+    pub(crate) fn new(alloc: Global, number: u64, writer: W) -> RecordFile<W>
+        ensures out { (result.out.writer ≡ writer) × (result.out.waiting ≡ []) }
+        ensures whole { (result.number ≡ number) × (result.lines ≡ 0) × (result.is_whole ≡ true) }
+    {
         RecordFile {
             number,
             out: Appender::new(alloc, writer),
@@ -55,7 +70,9 @@ impl<W: Write + Drop> RecordFile<W> {
     }
 
     /// Whether no line waits.
-    pub(crate) fn is_written(&self) -> bool {
+    pub(crate) fn is_written(&self) -> bool
+        ensures { IsTrue result ↔ (self.now.out.waiting ≡ []) }
+    {
         self.out.waiting().is_empty()
     }
 
@@ -75,38 +92,50 @@ impl<W: Write + Drop> RecordFile<W> {
         self.is_written() && (self.users == 0 || !self.is_whole)
     }
 
-    /// One connection more needs it.
-    pub(crate) fn use_once(&mut self)
-        ensures { self.new.users ≡ min (self.old.users + 1) (2 ^ 64 - 1) }
+    /// One connection more or less needs it.
+    pub(crate) fn change_users(&mut self, change: UserChange)
+        ensures users { self.new.users ≡ users_after change self.old.users }
+        ensures same { IsSameFile self.old self.new }
     {
-        self.users = self.users.saturating_add(1);
-    }
-
-    /// One connection less needs it.
-    pub(crate) fn leave(&mut self)
-        ensures { self.new.users ≡ self.old.users - 1 }
-    {
-        self.users = self.users.saturating_sub(1);
+        self.users = match change {
+            UserChange::More => self.users.saturating_add(1),
+            UserChange::Less => self.users.saturating_sub(1),
+        };
     }
 
     /// All its lines so far are the beginning.
     pub(crate) fn end_beginning(&mut self)
-        ensures { self.new.beginning ≡ self.old.bytes }
+        ensures beginning { self.new.beginning ≡ self.old.bytes }
+        ensures same { IsSameFile self.old self.new }
     {
         self.beginning = self.bytes;
     }
 
     /// Adds a line of the beginning, and writes all that waits if that is much.
-    pub(crate) fn put(&mut self, text: &str) -> Result<(), Fault> {
-        if self.out.waiting().len() > MANY {
-            self.write_all()?;
-        }
+    pub(crate) fn put(&mut self, text: &str) -> Result<(), Fault>
+        ensures { (event : EventValue) → text.now ≡ event_text event → self.old.is_whole ≡ true
+            → OnOk result (Takes W.contents (event ∷ []) self.old self.new 0) }
+    {
+        self.make_room()?;
         self.count(text)
     }
 
+    // Writes all that waits if that is much.
+    fn make_room(&mut self) -> Result<(), Fault>
+        ensures { Takes W.contents [] self.old self.new 0 }
+    {
+        if self.out.waiting().len() > MANY {
+            return self.write_all();
+        }
+        Ok(())
+    }
+
     /// Writes all that waits.
-    pub(crate) fn write_all(&mut self) -> Result<(), Fault> {
-        for _ in 0..MOST_WRITES {
+    pub(crate) fn write_all(&mut self) -> Result<(), Fault>
+        ensures takes { Takes W.contents [] self.old self.new 0 }
+        ensures all { OnOk result (self.new.out.waiting ≡ []) }
+    {
+        'writes: for _ in 0..MOST_WRITES {
             if self.is_written() {
                 return Ok(());
             }
@@ -115,7 +144,12 @@ impl<W: Write + Drop> RecordFile<W> {
         Err(Fault::Failed(io::Error::from(ErrorKind::WouldBlock)))
     }
 
-    fn count(&mut self, text: &str) -> Result<(), Fault> {
+    fn count(&mut self, text: &str) -> Result<(), Fault>
+        ensures takes { (event : EventValue) → text.now ≡ event_text event → self.old.is_whole ≡ true
+            → OnOk result (Takes W.contents (event ∷ []) self.old self.new 0) }
+        ensures number { self.new.number ≡ self.old.number }
+        ensures lost { OnErr result (IsSameFile self.old self.new) }
+    {
         self.out.line(text)?;
         self.lines = self.lines.saturating_add(1);
         let more = text.len() as u64;
@@ -128,22 +162,46 @@ impl<W: Write + Drop> RecordFile<W> {
         &mut self,
         line: &Result<String, AllocError>,
         faults: &mut LogFaults,
-    ) -> Option<u64> {
-        if self.is_whole {
-            if self.out.waiting().len() > MANY {
-                self.out.write(faults);
-            }
-            match self.try_add(line) {
-                Ok(()) => return Some(self.lines),
-                Err(fault) => faults.note(fault),
-            }
-            self.is_whole = false;
+    ) -> Option<u64>
+        ensures takes { (event : EventValue) → IsTextOf line.now event
+            → Takes W.contents (event ∷ []) self.old self.new (lost_at result) }
+        ensures line { IfSome result (λ line. line ≡ self.new.lines) }
+        ensures number { self.new.number ≡ self.old.number }
+        ensures ends { IsNone result → self.new.is_whole ≡ false }
+        ensures counted { faults.new.dropped ≡ counted faults.old.dropped (lost_at result) }
+    {
+        if !self.is_whole {
+            faults.lose(1);
+            return None;
         }
-        faults.lose(1);
-        None
+        self.write_many(faults);
+        match self.try_add(line) {
+            Ok(()) => Some(self.lines),
+            Err(fault) => {
+                faults.note(fault);
+                faults.lose(1);
+                self.is_whole = false;
+                None
+            }
+        }
     }
 
-    fn try_add(&mut self, line: &Result<String, AllocError>) -> Result<(), Fault> {
+    // Writes once if much waits.
+    fn write_many(&mut self, faults: &mut LogFaults)
+        ensures takes { Takes W.contents [] self.old self.new 0 }
+        ensures lines { faults.new.dropped ≡ faults.old.dropped }
+    {
+        if self.out.waiting().len() > MANY {
+            self.out.write(faults);
+        }
+    }
+
+    fn try_add(&mut self, line: &Result<String, AllocError>) -> Result<(), Fault>
+        ensures takes { (event : EventValue) → IsTextOf line.now event → self.old.is_whole ≡ true
+            → OnOk result (Takes W.contents (event ∷ []) self.old self.new 0) }
+        ensures number { self.new.number ≡ self.old.number }
+        ensures lost { OnErr result (IsSameFile self.old self.new) }
+    {
         match line {
             Ok(text) => self.count(text.as_str()),
             Err(AllocError) => Err(Fault::Memory),
@@ -151,7 +209,10 @@ impl<W: Write + Drop> RecordFile<W> {
     }
 
     /// Writes once, if lines wait.
-    pub(crate) fn flush(&mut self, now: u64, faults: &mut LogFaults) {
+    pub(crate) fn flush(&mut self, now: u64, faults: &mut LogFaults)
+        ensures takes { Takes W.contents [] self.old self.new 0 }
+        ensures lines { faults.new.dropped ≡ faults.old.dropped }
+    {
         self.out.flush(now, faults);
     }
 }

@@ -1,4 +1,6 @@
 //! What a new proxy core has to be fed to have the same policies.
+ghost use Rattle.std.specs.Prelude.{◌≡◌, ◌↔◌, IfOk, IsTrue};
+ghost use Rattle.serve_log.specs.Beginnings.{IsNew, forgotten};
 
 use std::alloc::{AllocError, Global};
 use std::mem;
@@ -14,13 +16,13 @@ pub enum UpdateBytes<'a> {
     Refused,
 }
 
-// A response that was accepted.
+/// A response that was accepted.
 #[derive(Drop)]
-struct AcceptedResponse {
+pub(crate) struct AcceptedResponse {
     // how many responses were accepted, with this one
     generation: u64,
-    // its frame
-    bytes: Vec<u8>,
+    /// Its frame.
+    pub(crate) bytes: Vec<u8>,
 }
 
 /// What a new proxy core has to be fed to have the same policies.
@@ -41,7 +43,9 @@ pub(crate) struct Updates {
 
 impl Updates {
     /// No response was accepted, for so many filters.
-    pub(crate) fn new(alloc: Global, filters: usize) -> Result<Updates, AllocError> {
+    pub(crate) fn new(alloc: Global, filters: usize) -> Result<Updates, AllocError>
+        ensures { IfOk result (λ updates. IsNew updates) }
+    {
         let mut given_by = Vec::new(alloc);
         for _ in 0..filters {
             given_by.push(0)?;
@@ -115,35 +119,37 @@ impl Updates {
     }
 
     /// Whether nothing has happened that a new core has to be fed.
-    pub(crate) fn is_new(&self) -> bool {
+    pub(crate) fn is_new(&self) -> bool
+        ensures { IsTrue result ↔ IsNew self.now }
+    {
         self.generation == 0 && !self.is_up
     }
 
     /// Whether the stream is up.
-    pub(crate) fn is_up(&self) -> bool {
+    pub(crate) fn is_up(&self) -> bool
+        ensures { result ≡ self.now.is_up }
+    {
         self.is_up
     }
 
     /// How many of the accepted responses are not kept.
-    pub(crate) fn forgotten(&self) -> u64 {
+    pub(crate) fn forgotten(&self) -> u64
+        ensures { result ≡ forgotten self.now }
+    {
         self.generation.saturating_sub(self.kept.len() as u64)
     }
 
-    /// The frame of the response that is kept in this place, in order.
-    pub(crate) fn frame(&self, place: usize) -> Option<&[u8]> {
-        match self.kept.get(place) {
-            Some(kept) => Some(kept.bytes.as_slice()),
-            None => None,
-        }
-    }
-
-    /// How many responses are kept.
-    pub(crate) fn len(&self) -> usize {
-        self.kept.len()
+    /// The responses that are kept, in order.
+    pub(crate) fn kept(&self) -> &[AcceptedResponse]
+        ensures { result.now ≡ self.now.kept.items }
+    {
+        &self.kept
     }
 
     /// The bytes of the response that is not complete.
-    pub(crate) fn unfinished(&self) -> &[u8] {
+    pub(crate) fn unfinished(&self) -> &[u8]
+        ensures { result.now ≡ self.now.unfinished.items }
+    {
         &self.unfinished
     }
 }

@@ -3,6 +3,7 @@ use Rattle.std.proofs.Common.{◌≡◌, ◌<◌, ℕ, zero, suc, ◌==◌, Bool
 use Rattle.std.proofs.lemmas.Bool.{eqb-true, eq-eqb}
 use Rattle.std.proofs.lemmas.List.{get_or-set_same, get_or-set_other, length-set, take-append-drop}
 use Rattle.std.proofs.Math.Logic.{∥∥₁_map}
+use Rattle.serve_loop.specs.declared.parties.Parties.{Parties}
 use Rattle.serve_loop.specs.declared.stream.Stream.{Stream}
 use Rattle.serve_loop.specs.declared.stream.Stream.TheVariants.{Place, Updates}
 use Rattle.serve_loop.specs.History.{EventValue, accepted, connected, received, closed, drain, Step, event, sent, Effect, Turn, took, gave, waiting_at, open_at, MayFollow}
@@ -163,41 +164,55 @@ closed_more [] closed' (suc k) = refl
 closed_more (p ∷ places) closed' zero = closed' 0
 closed_more (p ∷ places) closed' (suc k) = closed_more places (λ j. closed' (suc j)) k
 
-module _ {F Setup : Type 0} (turns turns' : List (Turn F)) (setup setup' : Setup) (same : setup' ≡ setup) where
-  pub goes_still : turns' ≡ turns → (past : List (Turn F)) (first : Setup) → IsAfter past first turns setup
-      → IsAfter past first turns' setup'
+-- what a network was opened by, and what a service is set up with, are the same if both are
+both : {A B : Type 0} (a a' : A) (b b' : B) → a' ≡ a → b' ≡ b → ◌≡◌ {A = A × B} (a', b') (a, b)
+both {A} {B} a a' b b' same_a same_b =
+    let first : A → A × B = λ x. (x, b') in
+    let second : B → A × B = λ y. (a, y) in
+    ap first same_a ∙ ap second same_b
+
+module _ {F Opening Setup : Type 0} (turns turns' : List (Turn F)) (opening opening' : Opening) (setup setup' : Setup)
+    (same_opening : opening' ≡ opening) (same_setup : setup' ≡ setup) where
+  pub goes_still : turns' ≡ turns → (past : List (Turn F)) (first : Opening × Setup) → IsAfter past first turns (opening, setup)
+      → IsAfter past first turns' (opening', setup')
   goes_still t past first h = record {
     more = h.more;
     whole = t ∙ h.whole;
-    same = same ∙ h.same;
+    same = both opening opening' setup setup' same_opening same_setup ∙ h.same;
   }
 
-  pub goes_took : (e : EventValue F) → (effect : Effect) × (turns' ≡ took e effect ∷ turns) → (past : List (Turn F)) (first : Setup)
-      → IsAfter past first turns setup → IsAfter past first turns' setup'
+  pub goes_took : (e : EventValue F) → (effect : Effect) × (turns' ≡ took e effect ∷ turns) → (past : List (Turn F))
+      (first : Opening × Setup) → IsAfter past first turns (opening, setup) → IsAfter past first turns' (opening', setup')
   goes_took e (effect, t) past first h = record {
     more = took e effect ∷ h.more;
     whole = t ∙ ap (λ (l : List (Turn F)). took e effect ∷ l) h.whole;
-    same = same ∙ h.same;
+    same = both opening opening' setup setup' same_opening same_setup ∙ h.same;
   }
 
-  pub goes_gave : (s : Stream) (bytes : List ℕ) → turns' ≡ gave s bytes ∷ turns → (past : List (Turn F)) (first : Setup)
-      → IsAfter past first turns setup → IsAfter past first turns' setup'
+  pub goes_gave : (s : Stream) (bytes : List ℕ) → turns' ≡ gave s bytes ∷ turns → (past : List (Turn F)) (first : Opening × Setup)
+      → IsAfter past first turns (opening, setup) → IsAfter past first turns' (opening', setup')
   goes_gave s bytes t past first h = record {
     more = gave s bytes ∷ h.more;
     whole = t ∙ ap (λ (l : List (Turn F)). gave s bytes ∷ l) h.whole;
-    same = same ∙ h.same;
+    same = both opening opening' setup setup' same_opening same_setup ∙ h.same;
   }
 
--- what a service is set up with stays while it goes on
-pub setup_stays : {S F Setup : Type 0} (turns : S → List (Turn F)) (setup : S → Setup) (old new : S) → GoesOn turns setup old new
-    → setup new ≡ setup old
-setup_stays turns setup old new goes_on =
-    (goes_on (turns old) (setup old) (record { more = []; whole = refl; same = refl })).same
+module _ {F N S O Opening Setup : Type 0} (opening : N → Opening) (turns : S → List (Turn F)) (setup : S → Setup)
+    (old new : Parties F N S O) (goes_on : GoesOn opening turns setup old new) where
+  -- what the network was opened by and what the service is set up with stay while they go on
+  both_stay : ◌≡◌ {A = Opening × Setup} (opening new.network, setup new.service) (opening old.network, setup old.service)
+  both_stay = (goes_on (turns old.service) (opening old.network, setup old.service)
+      (record { more = []; whole = refl; same = refl })).same
 
--- so does the number of its places
-pub counted_on : {S F Setup : Type 0} (turns : S → List (Turn F)) (setup : S → Setup) (places : Setup → ℕ) (old new : S) (n : ℕ)
-    → GoesOn turns setup old new → n ≡ places (setup old) → n ≡ places (setup new)
-counted_on turns setup places old new n goes_on is = is ∙ ap places (sym (setup_stays turns setup old new goes_on))
+  pub opening_stays : opening new.network ≡ opening old.network
+  opening_stays = ap (λ (p : Opening × Setup). p.0) both_stay
+
+  pub setup_stays : setup new.service ≡ setup old.service
+  setup_stays = ap (λ (p : Opening × Setup). p.1) both_stay
+
+  -- so does the number of places
+  pub counted_on : (places : Setup → ℕ) (n : ℕ) → n ≡ places (setup old.service) → n ≡ places (setup new.service)
+  counted_on places n is = is ∙ ap places (sym setup_stays)
 
 -- so where connections are accepted is known
 pub placed_on : {F : Type 0} (wire : List (Step F)) (places : List Bool) (is_up is_ending : Bool) (n : ℕ) → length places ≡ n

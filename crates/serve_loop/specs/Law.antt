@@ -1,5 +1,6 @@
 -- The law of the loop: what happened on the wire is what the service was told and what it answered.
 use Rattle.std.specs.Prelude.{◌≡◌, ◌<◌, ℕ, Bool, false, List, [], ◌∷◌, ◌++◌, get_or, length}
+use Rattle.serve_loop.specs.declared.parties.Parties.{Parties}
 use Rattle.serve_loop.specs.declared.stream.Stream.TheVariants.{Place, Updates}
 use Rattle.serve_loop.specs.History.{EventValue, accepted, connected, received, closed, drain, Step, event, sent, Turn, took, gave, waiting_at, open_at, is_told, IsOrderly}
 
@@ -51,13 +52,16 @@ pub record IsKept {F : Type 0} (wire : List (Step F)) (places : List Bool) (is_u
   pub ending : is_told wire ≡ is_ending
   pub placed : ArePlaced (length places) wire
 
--- a service after this past, set up with this: these turns, and before them the past; and the same setup
+-- a service after this past, with this setup: these turns, and before them the past; and the same setup
 pub record IsAfter {F Setup : Type 0} (past : List (Turn F)) (first : Setup) (turns : List (Turn F)) (setup : Setup) : Type 0 where
   pub more : List (Turn F)
   pub whole : turns ≡ more ++ past
   pub same : setup ≡ first
 
--- a service goes on: what happened stays, turns come after it, and what it is set up with stays
-abbrev pub GoesOn : {S F Setup : Type 0} → (S → List (Turn F)) → (S → Setup) → S → S → Type 0
-GoesOn {S} {F} {Setup} turns setup old new = (past : List (Turn F)) (first : Setup)
-    → IsAfter past first (turns old) (setup old) → IsAfter past first (turns new) (setup new)
+-- a board goes on: what happened to its service stays, and turns come after it. What the network was opened by stays, and
+-- so does what the service is set up with
+abbrev pub GoesOn : {F N S O Opening Setup : Type 0} → (N → Opening) → (S → List (Turn F)) → (S → Setup)
+    → Parties F N S O → Parties F N S O → Type 0
+GoesOn {F} {N} {S} {O} {Opening} {Setup} opening turns setup old new = (past : List (Turn F)) (first : Opening × Setup)
+    → IsAfter past first (turns old.service) (opening old.network, setup old.service)
+    → IsAfter past first (turns new.service) (opening new.network, setup new.service)

@@ -102,7 +102,7 @@ impl<F: Drop, N: Network<F>, S: Service<F>, O: Observer<F, S>> Board<F, N, S, O>
 
     /// Calls what is done between turns.
     pub fn keep_up<U: Upkeep<F, N, S, O>>(&mut self, upkeep: &mut U)
-        ensures goes_on { GoesOn S.turns S.setup self.old.parties.service self.new.parties.service }
+        ensures goes_on { GoesOn N.setup S.turns S.setup self.old.parties self.new.parties }
         ensures still { S.turns self.new.parties.service ≡ S.turns self.old.parties.service }
     {
         let parties = &mut self.parties;
@@ -140,14 +140,14 @@ impl<F: Drop, N: Network<F>, S: Service<F>, O: Observer<F, S>> Board<F, N, S, O>
 
     /// Waits for at most so many milliseconds, and adds what is ready.
     pub fn wait(&mut self, most: u64, ready: &mut Vec<Ready>) -> io::Result<()>
-        ensures goes_on { GoesOn S.turns S.setup self.old.parties.service self.new.parties.service }
+        ensures goes_on { GoesOn N.setup S.turns S.setup self.old.parties self.new.parties }
     {
         self.parties.wait(most, &mut self.is_ending, ready)
     }
 
     /// Accepts a connection in place `k`. `Lost` if one is open there, if there is no such place, or if it failed.
     pub fn accept(&mut self, k: usize) -> Attempt
-        ensures goes_on { GoesOn S.turns S.setup self.old.parties.service self.new.parties.service }
+        ensures goes_on { GoesOn N.setup S.turns S.setup self.old.parties self.new.parties }
         ensures tries { Tries (λ e. (facts : F) × (e ≡ accepted k facts)) (S.turns self.old.parties.service) result
             (S.turns self.new.parties.service) }
     {
@@ -162,7 +162,7 @@ impl<F: Drop, N: Network<F>, S: Service<F>, O: Observer<F, S>> Board<F, N, S, O>
 
     /// Connects the stream of updates. `Lost` if it is open, or if it failed.
     pub fn connect(&mut self) -> Attempt
-        ensures goes_on { GoesOn S.turns S.setup self.old.parties.service self.new.parties.service }
+        ensures goes_on { GoesOn N.setup S.turns S.setup self.old.parties self.new.parties }
         ensures tries { Tries (λ e. e ≡ connected) (S.turns self.old.parties.service) result (S.turns self.new.parties.service) }
     {
         if self.is_open(Stream::Updates) {
@@ -174,7 +174,7 @@ impl<F: Drop, N: Network<F>, S: Service<F>, O: Observer<F, S>> Board<F, N, S, O>
     /// Reads a stream once, at most as many bytes as `room` has and the service takes. The service takes what was read.
     /// `Lost` if the stream is not open.
     pub fn read(&mut self, stream: Stream, room: &mut [u8]) -> Attempt
-        ensures goes_on { GoesOn S.turns S.setup self.old.parties.service self.new.parties.service }
+        ensures goes_on { GoesOn N.setup S.turns S.setup self.old.parties self.new.parties }
         ensures tries { Tries (λ e. (bytes : List ℕ) × (e ≡ received stream bytes)) (S.turns self.old.parties.service) result
             (S.turns self.new.parties.service) }
     {
@@ -187,7 +187,7 @@ impl<F: Drop, N: Network<F>, S: Service<F>, O: Observer<F, S>> Board<F, N, S, O>
     /// Writes once what waits for a stream. Returns how many bytes the stream took, or why it took none. `Lost` if the
     /// stream is not open.
     pub fn write(&mut self, stream: Stream) -> Result<usize, Attempt>
-        ensures goes_on { GoesOn S.turns S.setup self.old.parties.service self.new.parties.service }
+        ensures goes_on { GoesOn N.setup S.turns S.setup self.old.parties self.new.parties }
         ensures writes { Writes stream (S.turns self.old.parties.service) result (S.turns self.new.parties.service) }
     {
         if !self.is_open(stream) {
@@ -198,7 +198,7 @@ impl<F: Drop, N: Network<F>, S: Service<F>, O: Observer<F, S>> Board<F, N, S, O>
 
     /// Tells the other end of a stream that nothing more is written. Nothing is done if the stream is not open.
     pub fn finish(&mut self, stream: Stream)
-        ensures goes_on { GoesOn S.turns S.setup self.old.parties.service self.new.parties.service }
+        ensures goes_on { GoesOn N.setup S.turns S.setup self.old.parties self.new.parties }
         ensures still { S.turns self.new.parties.service ≡ S.turns self.old.parties.service }
     {
         if self.is_open(stream) {
@@ -208,7 +208,7 @@ impl<F: Drop, N: Network<F>, S: Service<F>, O: Observer<F, S>> Board<F, N, S, O>
 
     /// Closes a stream. Nothing is done if it is not open.
     pub fn close(&mut self, stream: Stream, reason: CloseReason)
-        ensures goes_on { GoesOn S.turns S.setup self.old.parties.service self.new.parties.service }
+        ensures goes_on { GoesOn N.setup S.turns S.setup self.old.parties self.new.parties }
         ensures closed { open_at stream (N.wire self.new.parties.network) ≡ false }
         ensures closes { Closes stream (open_at stream (N.wire self.old.parties.network)) (S.turns self.old.parties.service)
             (S.turns self.new.parties.service) }
@@ -221,7 +221,7 @@ impl<F: Drop, N: Network<F>, S: Service<F>, O: Observer<F, S>> Board<F, N, S, O>
 
     // Closes the connection in a place, if one is open there.
     fn close_place(&mut self, k: usize, reason: CloseReason)
-        ensures goes_on { GoesOn S.turns S.setup self.old.parties.service self.new.parties.service }
+        ensures goes_on { GoesOn N.setup S.turns S.setup self.old.parties self.new.parties }
         ensures closed { open_at (Place k) (N.wire self.new.parties.network) ≡ false }
         ensures closes { Closes (Place k) (open_at (Place k) (N.wire self.old.parties.network)) (S.turns self.old.parties.service)
             (S.turns self.new.parties.service) }
@@ -233,7 +233,7 @@ impl<F: Drop, N: Network<F>, S: Service<F>, O: Observer<F, S>> Board<F, N, S, O>
 
     // Closes the stream of updates, if it is open.
     fn disconnect(&mut self, reason: CloseReason)
-        ensures goes_on { GoesOn S.turns S.setup self.old.parties.service self.new.parties.service }
+        ensures goes_on { GoesOn N.setup S.turns S.setup self.old.parties self.new.parties }
         ensures closed { open_at Updates (N.wire self.new.parties.network) ≡ false }
         ensures closes { Closes Updates (open_at Updates (N.wire self.old.parties.network)) (S.turns self.old.parties.service)
             (S.turns self.new.parties.service) }

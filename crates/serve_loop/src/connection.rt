@@ -71,7 +71,7 @@ impl Connection {
         k: usize,
         settings: &Settings,
     ) -> Next
-        ensures goes_on { GoesOn S.turns S.setup board.old.parties.service board.new.parties.service }
+        ensures goes_on { GoesOn N.setup S.turns S.setup board.old.parties board.new.parties }
     {
         match self.step(board, k, settings) {
             Next::Again => {}
@@ -90,7 +90,7 @@ impl Connection {
         k: usize,
         settings: &Settings,
     ) -> Next
-        ensures goes_on { GoesOn S.turns S.setup board.old.parties.service board.new.parties.service }
+        ensures goes_on { GoesOn N.setup S.turns S.setup board.old.parties board.new.parties }
     {
         let stream = Stream::Place(k);
         let sent = self.flow.write(board, stream);
@@ -112,7 +112,7 @@ impl Connection {
         board: &mut Board<F, N, S, O>,
         k: usize,
     ) -> Next
-        ensures goes_on { GoesOn S.turns S.setup board.old.parties.service board.new.parties.service }
+        ensures goes_on { GoesOn N.setup S.turns S.setup board.old.parties board.new.parties }
     {
         board.finish(Stream::Place(k));
         self.phase = Phase::Lingers;
@@ -126,7 +126,7 @@ impl Connection {
         board: &mut Board<F, N, S, O>,
         k: usize,
     ) -> Next
-        ensures goes_on { GoesOn S.turns S.setup board.old.parties.service board.new.parties.service }
+        ensures goes_on { GoesOn N.setup S.turns S.setup board.old.parties board.new.parties }
     {
         let mut room = [0u8; CHUNK];
         match board.read(Stream::Place(k), &mut room) {

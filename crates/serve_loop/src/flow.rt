@@ -51,7 +51,7 @@ impl Flow {
         board: &mut Board<F, N, S, O>,
         stream: Stream,
     ) -> Sent
-        ensures goes_on { GoesOn S.turns S.setup board.old.parties.service board.new.parties.service }
+        ensures goes_on { GoesOn N.setup S.turns S.setup board.old.parties board.new.parties }
     {
         for _ in 0..WRITES {
             if board.waiting(stream) == 0 {

@@ -59,7 +59,7 @@ impl<F: Drop, N: Network<F>, S: Service<F>, O: Observer<F, S>> Parties<F, N, S, 
     ) -> io::Result<()>
         ensures belongs { Belong (N.wire self.old.network) (S.turns self.old.service) (O.seen self.old.observer)
             → Belong (N.wire self.new.network) (S.turns self.new.service) (O.seen self.new.observer) }
-        ensures goes_on { GoesOn S.turns S.setup self.old.service self.new.service }
+        ensures goes_on { GoesOn N.setup S.turns S.setup self.old self.new }
         ensures kept { (places : List Bool) (is_up : Bool) → IsKept (N.wire self.old.network) places is_up is_ending.old
             → IsKept (N.wire self.new.network) places is_up is_ending.new }
     {
@@ -83,7 +83,7 @@ impl<F: Drop, N: Network<F>, S: Service<F>, O: Observer<F, S>> Parties<F, N, S, 
         requires within { k < length places.old.items }
         ensures belongs { Belong (N.wire self.old.network) (S.turns self.old.service) (O.seen self.old.observer)
             → Belong (N.wire self.new.network) (S.turns self.new.service) (O.seen self.new.observer) }
-        ensures goes_on { GoesOn S.turns S.setup self.old.service self.new.service }
+        ensures goes_on { GoesOn N.setup S.turns S.setup self.old self.new }
         ensures tries { Tries (λ e. (facts : F) × (e ≡ accepted k facts)) (S.turns self.old.service) result (S.turns self.new.service) }
         ensures count { length places.new.items ≡ length places.old.items }
         ensures kept { (is_up is_ending : Bool) → IsKept (N.wire self.old.network) places.old.items is_up is_ending
@@ -103,7 +103,7 @@ impl<F: Drop, N: Network<F>, S: Service<F>, O: Observer<F, S>> Parties<F, N, S, 
         requires { open_at Updates (N.wire self.old.network) ≡ false }
         ensures belongs { Belong (N.wire self.old.network) (S.turns self.old.service) (O.seen self.old.observer)
             → Belong (N.wire self.new.network) (S.turns self.new.service) (O.seen self.new.observer) }
-        ensures goes_on { GoesOn S.turns S.setup self.old.service self.new.service }
+        ensures goes_on { GoesOn N.setup S.turns S.setup self.old self.new }
         ensures tries { Tries (λ e. e ≡ connected) (S.turns self.old.service) result (S.turns self.new.service) }
         ensures kept { (places : List Bool) (is_ending : Bool) → IsKept (N.wire self.old.network) places is_up.old is_ending
             → IsKept (N.wire self.new.network) places is_up.new is_ending }
@@ -122,7 +122,7 @@ impl<F: Drop, N: Network<F>, S: Service<F>, O: Observer<F, S>> Parties<F, N, S, 
         requires { open_at stream (N.wire self.old.network) ≡ true }
         ensures belongs { Belong (N.wire self.old.network) (S.turns self.old.service) (O.seen self.old.observer)
             → Belong (N.wire self.new.network) (S.turns self.new.service) (O.seen self.new.observer) }
-        ensures goes_on { GoesOn S.turns S.setup self.old.service self.new.service }
+        ensures goes_on { GoesOn N.setup S.turns S.setup self.old self.new }
         ensures tries { Tries (λ e. (bytes : List ℕ) × (e ≡ received stream bytes)) (S.turns self.old.service) result
             (S.turns self.new.service) }
         ensures kept { (places : List Bool) (is_up is_ending : Bool) → IsKept (N.wire self.old.network) places is_up is_ending
@@ -149,7 +149,7 @@ impl<F: Drop, N: Network<F>, S: Service<F>, O: Observer<F, S>> Parties<F, N, S, 
         requires { open_at stream (N.wire self.old.network) ≡ true }
         ensures belongs { Belong (N.wire self.old.network) (S.turns self.old.service) (O.seen self.old.observer)
             → Belong (N.wire self.new.network) (S.turns self.new.service) (O.seen self.new.observer) }
-        ensures goes_on { GoesOn S.turns S.setup self.old.service self.new.service }
+        ensures goes_on { GoesOn N.setup S.turns S.setup self.old self.new }
         ensures writes { Writes stream (S.turns self.old.service) result (S.turns self.new.service) }
         ensures kept { (places : List Bool) (is_up is_ending : Bool) → IsKept (N.wire self.old.network) places is_up is_ending
             → IsKept (N.wire self.new.network) places is_up is_ending }
@@ -169,7 +169,7 @@ impl<F: Drop, N: Network<F>, S: Service<F>, O: Observer<F, S>> Parties<F, N, S, 
         requires within { k < length places.old.items }
         ensures belongs { Belong (N.wire self.old.network) (S.turns self.old.service) (O.seen self.old.observer)
             → Belong (N.wire self.new.network) (S.turns self.new.service) (O.seen self.new.observer) }
-        ensures goes_on { GoesOn S.turns S.setup self.old.service self.new.service }
+        ensures goes_on { GoesOn N.setup S.turns S.setup self.old self.new }
         ensures closes { (effect : Effect) × (S.turns self.new.service ≡ took (closed (Place k)) effect ∷ S.turns self.old.service) }
         ensures wire { N.wire self.new.network ≡ event (closed (Place k)) ∷ N.wire self.old.network }
         ensures count { length places.new.items ≡ length places.old.items }
@@ -186,7 +186,7 @@ impl<F: Drop, N: Network<F>, S: Service<F>, O: Observer<F, S>> Parties<F, N, S, 
         requires { open_at Updates (N.wire self.old.network) ≡ true }
         ensures belongs { Belong (N.wire self.old.network) (S.turns self.old.service) (O.seen self.old.observer)
             → Belong (N.wire self.new.network) (S.turns self.new.service) (O.seen self.new.observer) }
-        ensures goes_on { GoesOn S.turns S.setup self.old.service self.new.service }
+        ensures goes_on { GoesOn N.setup S.turns S.setup self.old self.new }
         ensures closes { (effect : Effect) × (S.turns self.new.service ≡ took (closed Updates) effect ∷ S.turns self.old.service) }
         ensures wire { N.wire self.new.network ≡ event (closed Updates) ∷ N.wire self.old.network }
         ensures kept { (places : List Bool) (is_ending : Bool) → IsKept (N.wire self.old.network) places is_up.old is_ending
@@ -201,6 +201,7 @@ impl<F: Drop, N: Network<F>, S: Service<F>, O: Observer<F, S>> Parties<F, N, S, 
     pub(crate) fn finish(&mut self, stream: Stream)
         requires { open_at stream (N.wire self.old.network) ≡ true }
         ensures wire { N.wire self.new.network ≡ N.wire self.old.network }
+        ensures setup { N.setup self.new.network ≡ N.setup self.old.network }
         ensures service { self.new.service ≡ self.old.service }
         ensures observer { self.new.observer ≡ self.old.observer }
     {

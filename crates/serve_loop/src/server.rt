@@ -89,7 +89,7 @@ impl<F: Drop, N: Network<F>, S: Service<F>, O: Observer<F, S>> Server<F, N, S, O
     pub fn keep_up<U: Upkeep<F, N, S, O>>(&mut self, upkeep: &mut U)
         ensures law { ∥ Belong (N.wire self.new.board.parties.network) (S.turns self.new.board.parties.service)
             (O.seen self.new.board.parties.observer) ∥₁ }
-        ensures goes_on { GoesOn S.turns S.setup self.old.board.parties.service self.new.board.parties.service }
+        ensures goes_on { GoesOn N.setup S.turns S.setup self.old.board.parties self.new.board.parties }
     {
         self.board.keep_up(upkeep);
     }
@@ -100,7 +100,7 @@ impl<F: Drop, N: Network<F>, S: Service<F>, O: Observer<F, S>> Server<F, N, S, O
     pub fn serve(&mut self) -> io::Result<()>
         ensures law { ∥ Belong (N.wire self.new.board.parties.network) (S.turns self.new.board.parties.service)
             (O.seen self.new.board.parties.observer) ∥₁ }
-        ensures goes_on { GoesOn S.turns S.setup self.old.board.parties.service self.new.board.parties.service }
+        ensures goes_on { GoesOn N.setup S.turns S.setup self.old.board.parties self.new.board.parties }
         ensures told { OnOk result (is_told (N.wire self.new.board.parties.network) ≡ true) }
     {
         for _ in 0..u64::MAX {
@@ -118,7 +118,7 @@ impl<F: Drop, N: Network<F>, S: Service<F>, O: Observer<F, S>> Server<F, N, S, O
     pub fn turn(&mut self) -> io::Result<bool>
         ensures law { ∥ Belong (N.wire self.new.board.parties.network) (S.turns self.new.board.parties.service)
             (O.seen self.new.board.parties.observer) ∥₁ }
-        ensures goes_on { GoesOn S.turns S.setup self.old.board.parties.service self.new.board.parties.service }
+        ensures goes_on { GoesOn N.setup S.turns S.setup self.old.board.parties self.new.board.parties }
     {
         self.wait()?;
         self.mark_ready()?;
@@ -131,7 +131,7 @@ impl<F: Drop, N: Network<F>, S: Service<F>, O: Observer<F, S>> Server<F, N, S, O
 
     // Waits until something is ready, or a tick has passed.
     fn wait(&mut self) -> io::Result<()>
-        ensures goes_on { GoesOn S.turns S.setup self.old.board.parties.service self.new.board.parties.service }
+        ensures goes_on { GoesOn N.setup S.turns S.setup self.old.board.parties self.new.board.parties }
     {
         self.ready.clear();
         let most = self.patience();
@@ -153,7 +153,7 @@ impl<F: Drop, N: Network<F>, S: Service<F>, O: Observer<F, S>> Server<F, N, S, O
 
     // A turn of the stream of updates, if it is due.
     fn serve_updates(&mut self)
-        ensures goes_on { GoesOn S.turns S.setup self.old.board.parties.service self.new.board.parties.service }
+        ensures goes_on { GoesOn N.setup S.turns S.setup self.old.board.parties self.new.board.parties }
     {
         if !self.updates.is_due {
             return;
@@ -173,7 +173,7 @@ impl<F: Drop, N: Network<F>, S: Service<F>, O: Observer<F, S>> Server<F, N, S, O
 
     // Marks what is ready.
     fn mark_ready(&mut self) -> Result<(), AllocError>
-        ensures goes_on { GoesOn S.turns S.setup self.old.board.parties.service self.new.board.parties.service }
+        ensures goes_on { GoesOn N.setup S.turns S.setup self.old.board.parties self.new.board.parties }
     {
         for at in 0..self.ready.len() {
             match self.ready.get(at) {
@@ -191,7 +191,7 @@ impl<F: Drop, N: Network<F>, S: Service<F>, O: Observer<F, S>> Server<F, N, S, O
 
     // A further turn of the connection in a place is due.
     fn mark(&mut self, k: usize) -> Result<(), AllocError>
-        ensures goes_on { GoesOn S.turns S.setup self.old.board.parties.service self.new.board.parties.service }
+        ensures goes_on { GoesOn N.setup S.turns S.setup self.old.board.parties self.new.board.parties }
     {
         if let Some(connection) = self.connections.get_mut(k) {
             if !connection.is_due {
@@ -204,7 +204,7 @@ impl<F: Drop, N: Network<F>, S: Service<F>, O: Observer<F, S>> Server<F, N, S, O
 
     // Accepts connections while there are places.
     fn accept_all(&mut self) -> Result<(), AllocError>
-        ensures goes_on { GoesOn S.turns S.setup self.old.board.parties.service self.new.board.parties.service }
+        ensures goes_on { GoesOn N.setup S.turns S.setup self.old.board.parties self.new.board.parties }
     {
         for _ in 0..ACCEPTS {
             if !self.accepts || self.ending_since.is_some() {
@@ -220,7 +220,7 @@ impl<F: Drop, N: Network<F>, S: Service<F>, O: Observer<F, S>> Server<F, N, S, O
 
     // Accepts a connection in a place, if one waits.
     fn accept(&mut self, k: usize) -> Result<(), AllocError>
-        ensures goes_on { GoesOn S.turns S.setup self.old.board.parties.service self.new.board.parties.service }
+        ensures goes_on { GoesOn N.setup S.turns S.setup self.old.board.parties self.new.board.parties }
     {
         match self.board.accept(k) {
             Attempt::Taken(outcome) if !outcome.closes => self.open(k),
@@ -236,7 +236,7 @@ impl<F: Drop, N: Network<F>, S: Service<F>, O: Observer<F, S>> Server<F, N, S, O
 
     // No connection was accepted in a place.
     fn leave(&mut self, k: usize) -> Result<(), AllocError>
-        ensures goes_on { GoesOn S.turns S.setup self.old.board.parties.service self.new.board.parties.service }
+        ensures goes_on { GoesOn N.setup S.turns S.setup self.old.board.parties self.new.board.parties }
     {
         self.free.push(k)?;
         Ok(())
@@ -244,7 +244,7 @@ impl<F: Drop, N: Network<F>, S: Service<F>, O: Observer<F, S>> Server<F, N, S, O
 
     // A connection was accepted in a place.
     fn open(&mut self, k: usize) -> Result<(), AllocError>
-        ensures goes_on { GoesOn S.turns S.setup self.old.board.parties.service self.new.board.parties.service }
+        ensures goes_on { GoesOn N.setup S.turns S.setup self.old.board.parties self.new.board.parties }
     {
         let now = self.board.now();
         if let Some(connection) = self.connections.get_mut(k) {
@@ -255,7 +255,7 @@ impl<F: Drop, N: Network<F>, S: Service<F>, O: Observer<F, S>> Server<F, N, S, O
 
     // Closes the connection in a place.
     fn close(&mut self, k: usize, reason: CloseReason) -> Result<(), AllocError>
-        ensures goes_on { GoesOn S.turns S.setup self.old.board.parties.service self.new.board.parties.service }
+        ensures goes_on { GoesOn N.setup S.turns S.setup self.old.board.parties self.new.board.parties }
     {
         self.board.close(Stream::Place(k), reason);
         self.free.push(k)?;
@@ -264,7 +264,7 @@ impl<F: Drop, N: Network<F>, S: Service<F>, O: Observer<F, S>> Server<F, N, S, O
 
     // A turn of each connection that has one.
     fn visit_all(&mut self) -> Result<(), AllocError>
-        ensures goes_on { GoesOn S.turns S.setup self.old.board.parties.service self.new.board.parties.service }
+        ensures goes_on { GoesOn N.setup S.turns S.setup self.old.board.parties self.new.board.parties }
     {
         let count = self.due.len();
         for at in 0..count {
@@ -280,7 +280,7 @@ impl<F: Drop, N: Network<F>, S: Service<F>, O: Observer<F, S>> Server<F, N, S, O
 
     // A turn of the connection in a place, if one is open there.
     fn visit(&mut self, k: usize) -> Result<(), AllocError>
-        ensures goes_on { GoesOn S.turns S.setup self.old.board.parties.service self.new.board.parties.service }
+        ensures goes_on { GoesOn N.setup S.turns S.setup self.old.board.parties self.new.board.parties }
     {
         let Some(connection) = self.connections.get_mut(k) else {
             return Ok(());
@@ -298,7 +298,7 @@ impl<F: Drop, N: Network<F>, S: Service<F>, O: Observer<F, S>> Server<F, N, S, O
 
     // Closes what takes too long, and tries again what was refused or blocked.
     fn tick(&mut self) -> Result<(), AllocError>
-        ensures goes_on { GoesOn S.turns S.setup self.old.board.parties.service self.new.board.parties.service }
+        ensures goes_on { GoesOn N.setup S.turns S.setup self.old.board.parties self.new.board.parties }
     {
         let now = self.board.now();
         if !has_passed(self.ticked, TICK, now) {
@@ -325,7 +325,7 @@ impl<F: Drop, N: Network<F>, S: Service<F>, O: Observer<F, S>> Server<F, N, S, O
 
     // Whether the server goes on: it is not to end, or connections are open and have time.
     fn goes_on(&mut self) -> bool
-        ensures goes_on { GoesOn S.turns S.setup self.old.board.parties.service self.new.board.parties.service }
+        ensures goes_on { GoesOn N.setup S.turns S.setup self.old.board.parties self.new.board.parties }
     {
         let Some(since) = self.ending_since else {
             return true;

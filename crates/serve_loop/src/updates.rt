@@ -50,7 +50,7 @@ impl Updates {
         board: &mut Board<F, N, S, O>,
         settings: &Settings,
     )
-        ensures goes_on { GoesOn S.turns S.setup board.old.parties.service board.new.parties.service }
+        ensures goes_on { GoesOn N.setup S.turns S.setup board.old.parties board.new.parties }
     {
         self.is_due = false;
         for _ in 0..PIECES {
@@ -69,7 +69,7 @@ impl Updates {
         board: &mut Board<F, N, S, O>,
         settings: &Settings,
     ) -> Next
-        ensures goes_on { GoesOn S.turns S.setup board.old.parties.service board.new.parties.service }
+        ensures goes_on { GoesOn N.setup S.turns S.setup board.old.parties board.new.parties }
     {
         let is_open = board.is_open(Stream::Updates);
         if is_open {
@@ -133,7 +133,7 @@ impl Updates {
         reason: CloseReason,
         settings: &Settings,
     )
-        ensures goes_on { GoesOn S.turns S.setup board.old.parties.service board.new.parties.service }
+        ensures goes_on { GoesOn N.setup S.turns S.setup board.old.parties board.new.parties }
     {
         if board.is_open(Stream::Updates) {
             if reason == CloseReason::Served {
@@ -154,7 +154,7 @@ impl Updates {
         board: &mut Board<F, N, S, O>,
         settings: &Settings,
     )
-        ensures goes_on { GoesOn S.turns S.setup board.old.parties.service board.new.parties.service }
+        ensures goes_on { GoesOn N.setup S.turns S.setup board.old.parties board.new.parties }
     {
         self.is_due = true;
         if !board.is_open(Stream::Updates) {

@@ -10,5 +10,6 @@ pub trait Upkeep<F, N: Network<F>, S: Service<F>, O: Observer<F, S>> {
     /// It is done once, at this time.
     fn turn(&mut self, network: &mut N, service: &S, observer: &mut O, now: u64)
         ensures wire { N.wire network.new ≡ N.wire network.old }
+        ensures setup { N.setup network.new ≡ N.setup network.old }
         ensures seen { O.seen observer.new ≡ O.seen observer.old };
 }

@@ -5,6 +5,7 @@ pub mod Numbers
 pub mod Counting
 pub mod Losses
 pub mod Entries
+pub mod Recording
 pub mod Decisions
 pub mod Responses
 pub mod Control

@@ -1,7 +1,8 @@
 //! What sees each event of a server: it is counted, logged and recorded. None of that has an effect on the service.
-ghost use Rattle.std.specs.Prelude.{◌≡◌, [], ◌∷◌, IfOk, is_some};
+ghost use Rattle.std.specs.Prelude.{◌≡◌, [], ◌∷◌, IfOk, IfSome, is_some};
 ghost use Rattle.serve_loop.specs.Events.{event_view};
 ghost use Rattle.serve_loop.specs.Law.{events_of};
+ghost use Rattle.serve_observe.specs.Recording.{Records};
 ghost use Rattle.serve_observe.specs.Control.{Shows, after_event, after_failed_look, after_failed_opening, after_good_look, no_control};
 
 use crate::access_log::DecisionContext;
@@ -156,8 +157,12 @@ impl<'r, R: Clock, F: LogFiles + Drop> Observers<'r, R, F> {
         }
     }
 
-    // Gives an entry to the record. Returns where it has the bytes of a connection.
-    fn record(&mut self, entry: &Entry<'_, '_>) -> Option<RecordPosition> {
+    // Gives an entry to the record, if there is one. Returns where it has the bytes of a connection.
+    fn record(&mut self, entry: &Entry<'_, '_>) -> Option<RecordPosition>
+        ensures same { is_some self.new.logs.recorder ≡ is_some self.old.logs.recorder }
+        ensures records { IfSome self.old.logs.recorder (λ old. IfSome self.new.logs.recorder (λ new. Records F.File.contents
+            entry.now old.connections.items new.connections.items old.open_files new.open_files)) }
+    {
         match &mut self.logs.recorder {
             Some(recorder) => record(self.alloc, recorder, entry),
             None => None,

@@ -4,6 +4,8 @@ ghost use Rattle.std.specs.String.{string_bytes};
 ghost use Rattle.serve_core.specs.Served.{served_core};
 ghost use Rattle.serve_loop.specs.Events.{event_view};
 ghost use Rattle.serve_observe.specs.Entries.{Says, client_events, core_event, event_in, is_closing, is_of_place, number_in, recorded};
+ghost use Rattle.serve_observe.specs.Recording.{Records};
+ghost use Rattle.serve_log.specs.Recording.{Feeds};
 
 use crate::responses::places_of;
 use ads::{Judgement, ResponseOutcome};
@@ -123,16 +125,33 @@ pub(crate) fn record<F: LogFiles + Drop>(
     alloc: Global,
     recorder: &mut Recorder<F>,
     entry: &Entry<'_, '_>,
-) -> Option<RecordPosition> {
+) -> Option<RecordPosition>
+    ensures { Records F.File.contents entry.now recorder.old.connections.items recorder.new.connections.items
+        recorder.old.open_files recorder.new.open_files }
+{
     match *entry {
-        Entry::Opened(k, number, conn) => recorder.opened(k, number, conn),
-        Entry::Received(k, bytes, is_fresh) => return recorder.received(k, bytes, is_fresh),
-        Entry::Closed(k) => recorder.closed(k),
-        Entry::Up => recorder.up(),
-        Entry::Fed(bytes, outcome) => record_updates(alloc, recorder, bytes, outcome),
-        Entry::Lost => recorder.lost(),
+        Entry::Opened(k, number, conn) => {
+            recorder.opened(k, number, conn);
+            None
+        }
+        Entry::Received(k, bytes, is_fresh) => recorder.received(k, bytes, is_fresh),
+        Entry::Closed(k) => {
+            recorder.closed(k);
+            None
+        }
+        Entry::Up => {
+            recorder.up();
+            None
+        }
+        Entry::Fed(bytes, outcome) => {
+            record_updates(alloc, recorder, bytes, outcome);
+            None
+        }
+        Entry::Lost => {
+            recorder.lost();
+            None
+        }
     }
-    None
 }
 
 // Records bytes of the update stream, which complete a response that is judged so, or none.
@@ -141,7 +160,9 @@ fn record_updates<F: LogFiles + Drop>(
     recorder: &mut Recorder<F>,
     bytes: &[u8],
     outcome: Option<&ResponseOutcome>,
-) {
+)
+    ensures { Feeds F.File.contents bytes.now recorder.old.open_files recorder.new.open_files }
+{
     match outcome {
         None => recorder.fed(bytes, &UpdateBytes::Partial),
         Some(ResponseOutcome::Refused(_)) => recorder.fed(bytes, &UpdateBytes::Refused),

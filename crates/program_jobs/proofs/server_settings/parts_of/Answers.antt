@@ -7,4 +7,5 @@ pub returns : goal.returns
 returns c = record {
   members = c.in-Ok.ensures;
   proxy = found_member c.get.result (λ v. view v.now) c.in-Some.proxy _ _ c.get.ensures c.in-Some.is c.in-Ok-config_at.ensures.found;
+  known = c.in_ok-conn.ensures;
 }

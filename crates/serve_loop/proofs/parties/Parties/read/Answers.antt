@@ -36,13 +36,14 @@ pub returns-in-Err-clause-kept : goal.returns-in-Err-clause-kept
 returns-in-Err-clause-kept g c = λ places is_up is_ending k. kept_still _ _ places is_up is_ending (c.in-Err.ensures.received) k
 
 pub returns-else-count-eq0-clause-goes_on : goal.returns-else-count-eq0-clause-goes_on
-returns-else-count-eq0-clause-goes_on g c = goes_took _ _ _ _ c.deliver.ensures.setup _ c.deliver.ensures.took
+returns-else-count-eq0-clause-goes_on g c = goes_took _ _ _ _ _ _ (ap g.N.Network.setup c.deliver.ensures.network ∙ c.in-Ok.ensures.setup)
+    c.deliver.ensures.setup _ c.deliver.ensures.took
 
 pub returns-then-count-eq0-clause-goes_on : goal.returns-then-count-eq0-clause-goes_on
-returns-then-count-eq0-clause-goes_on g c = goes_still _ _ _ _ refl refl
+returns-then-count-eq0-clause-goes_on g c = goes_still _ _ _ _ _ _ c.in-Ok.ensures.setup refl refl
 
 pub returns-then-most-eq0-clause-goes_on : goal.returns-then-most-eq0-clause-goes_on
-returns-then-most-eq0-clause-goes_on g c = goes_still _ _ _ _ refl refl
+returns-then-most-eq0-clause-goes_on g c = goes_still _ _ _ _ _ _ refl refl refl
 
 pub returns-in-Err-clause-goes_on : goal.returns-in-Err-clause-goes_on
-returns-in-Err-clause-goes_on g c = goes_still _ _ _ _ refl refl
+returns-in-Err-clause-goes_on g c = goes_still _ _ _ _ _ _ c.in-Err.ensures.setup refl refl

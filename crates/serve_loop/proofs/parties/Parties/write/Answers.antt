@@ -17,7 +17,7 @@ pub returns-in-Err-clause-kept : goal.returns-in-Err-clause-kept
 returns-in-Err-clause-kept g c = λ places is_up is_ending k. kept_still _ _ places is_up is_ending (c.in-Err.ensures.sent) k
 
 pub returns-in-Ok-clause-goes_on : goal.returns-in-Ok-clause-goes_on
-returns-in-Ok-clause-goes_on g c = goes_gave _ _ _ _ c.sent.ensures.setup _ _ c.sent.ensures.turns
+returns-in-Ok-clause-goes_on g c = goes_gave _ _ _ _ _ _ c.in-Ok.ensures.setup c.sent.ensures.setup _ _ c.sent.ensures.turns
 
 pub returns-in-Err-clause-goes_on : goal.returns-in-Err-clause-goes_on
-returns-in-Err-clause-goes_on g c = goes_still _ _ _ _ refl refl
+returns-in-Err-clause-goes_on g c = goes_still _ _ _ _ _ _ c.in-Err.ensures.setup refl refl
