@@ -23,6 +23,11 @@ abbrev pub fed : Kept → List ℕ → Kept
 fed (reading skip rest) bytes = reading (skip - length bytes) (rest ++ drop skip bytes)
 fed closed bytes = closed
 
+-- how many bytes of a body are still to be skipped
+abbrev pub rest_of_body : Kept → ℕ
+rest_of_body (reading skip rest) = skip
+rest_of_body closed = 0
+
 -- what is kept after the first `n` bytes are skipped; some of them may be still to come
 abbrev pub passed : ℕ → List ℕ → Kept
 passed n bytes = reading (n - length bytes) (drop n bytes)

@@ -5,7 +5,7 @@ ghost use Rattle.attributes.specs.Conn.{Facts, conn_view};
 ghost use Rattle.attributes.specs.Headers.{lines_view};
 ghost use Rattle.http_front.specs.Answer.{answer_of, reply_view};
 ghost use Rattle.http_front.specs.Front.{HasNoAsk, TakesNext, fed_front, keeping, new_front};
-ghost use Rattle.http_front.specs.Heads.{closed, is_closed, reading};
+ghost use Rattle.http_front.specs.Heads.{closed, is_closed, reading, rest_of_body};
 ghost use Rattle.http_front.specs.Lines.{AreNextLines};
 ghost use Rattle.http_front.specs.private.Turns.{IsNextTurn, passing};
 
@@ -176,6 +176,16 @@ impl Front {
         ensures { IsTrue result ↔ (self.now.kept ≡ reading 0 []) }
     {
         !self.is_closed && self.skip == 0 && self.at == self.bytes.len()
+    }
+
+    /// How many bytes of a body are still to come, whose ask was taken; 0 if none is.
+    pub fn rest_of_body(&self) -> u64
+        ensures { result ≡ rest_of_body self.now.kept }
+    {
+        if self.is_closed {
+            return 0;
+        }
+        self.skip
     }
 
     /// The bytes of an answer.

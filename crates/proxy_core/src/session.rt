@@ -4,7 +4,7 @@ ghost use Rattle.std.specs.Prelude.{◌≡◌, ◌↔◌, [], IfOk, IfSome, IsOk
 ghost use Rattle.attributes.specs.Conn.{conn_view};
 ghost use Rattle.attributes.specs.Limits.{FactsInLimits};
 ghost use Rattle.ads.specs.Ends.{client_view};
-ghost use Rattle.http_front.specs.Heads.{reading};
+ghost use Rattle.http_front.specs.Heads.{reading, rest_of_body};
 ghost use Rattle.proxy_core.specs.Step.{OpensFront, AnswersBytes};
 
 use crate::answered_ask::AnsweredAsk;
@@ -80,5 +80,12 @@ impl Session {
         ensures { IsTrue result ↔ (self.now.kept ≡ reading 0 []) }
     {
         self.front.is_fresh()
+    }
+
+    /// How many bytes are still to come of the body of a request that was answered; 0 if none is.
+    pub fn rest_of_body(&self) -> u64
+        ensures { result ≡ rest_of_body self.now.kept }
+    {
+        self.front.rest_of_body()
     }
 }

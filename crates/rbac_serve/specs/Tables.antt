@@ -5,7 +5,7 @@ use Rattle.ads.specs.Config.{ConfigValue}
 use Rattle.ads.specs.Ends.{client_view}
 use Rattle.ads.specs.declared.client.Client.{Client}
 use Rattle.http_front.specs.Front.{FrontValue}
-use Rattle.http_front.specs.Heads.{reading}
+use Rattle.http_front.specs.Heads.{reading, rest_of_body}
 use Rattle.proxy_core.specs.Step.{ProxyValue, new_with, with_conn}
 use Rattle.rbac_serve.specs.declared.connection.ConnectionState.{ConnectionState}
 
@@ -33,6 +33,11 @@ waiting_at k answers = get_or answers k []
 abbrev pub IsFresh : Option FrontValue → Type 0
 IsFresh None = ⊥
 IsFresh (Some front) = front.kept ≡ reading 0 []
+
+-- how many bytes are still to come of the body of a request that was answered; none without a connection
+abbrev pub body_at : Option FrontValue → ℕ
+body_at None = 0
+body_at (Some front) = rest_of_body front.kept
 
 -- the worker once the connection in the place was closed
 abbrev pub closed_at : ℕ → WorkerValue → WorkerValue

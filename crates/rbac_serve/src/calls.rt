@@ -6,7 +6,7 @@ ghost use Rattle.attributes.specs.Conn.{conn_view};
 ghost use Rattle.ads.specs.Ends.{client_view};
 ghost use Rattle.proxy_core.specs.Events.{ads_bytes, ads_lost, ads_output, ads_up, http_closed, http_open, http_output, no_output};
 ghost use Rattle.proxy_core.specs.Step.{front_at};
-ghost use Rattle.rbac_serve.specs.Tables.{IsFresh, closed_at, new_worker, waiting_at};
+ghost use Rattle.rbac_serve.specs.Tables.{IsFresh, body_at, closed_at, new_worker, waiting_at};
 ghost use Rattle.rbac_serve.specs.Turns.{FeedsTurn, JudgesTurn, AnswersTurn, TurnDoes, Works, answer_sent, request_sent};
 ghost use Rattle.rbac_serve.specs.Workers.{worker_view};
 
@@ -70,6 +70,19 @@ impl Worker {
                 None => false,
             },
             None => false,
+        }
+    }
+
+    /// How many bytes are still to come, in place `k`, of the body of a request that was answered; 0 if none is.
+    pub fn rest_of_body(&self, k: usize) -> u64
+        ensures { result ≡ body_at (front_at (worker_view self.now).core k) }
+    {
+        match self.connections.get(k) {
+            Some(connection) => match &connection.session {
+                Some(session) => session.rest_of_body(),
+                None => 0,
+            },
+            None => 0,
         }
     }
 

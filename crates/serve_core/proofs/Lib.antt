@@ -10,3 +10,4 @@ pub mod MappedWire
 mod FrontSteps
 mod WrittenHeads
 mod MappedAsks
+mod Rooms

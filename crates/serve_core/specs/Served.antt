@@ -4,7 +4,7 @@ use Rattle.rbac_serve.specs.Workers.{worker_view}
 use Rattle.serve_loop.specs.declared.stream.Stream.{Stream}
 use Rattle.serve_core.specs.ClientRequests.{rule_view}
 use Rattle.serve_core.specs.Setups.{SetupValue, setup_of}
-use Rattle.serve_core.specs.Turns.{ServerTurn, room_for}
+use Rattle.serve_core.specs.Turns.{ServerTurn, room_for, worker_room}
 use Rattle.serve_core.specs.declared.served.Served.{Served}
 use Rattle.serve_core.specs.declared.served.Served.TheVariants.{AsSent, Mapped}
 use Rattle.serve_core.specs.declared.worker_service.WorkerService.{WorkerService}
@@ -16,7 +16,7 @@ served_turns (Mapped service) = service.trace.turns
 
 -- how many bytes of a stream the service takes
 abbrev pub served_takes : Served → Stream → ℕ
-served_takes (AsSent service) stream = room_for stream service.room
+served_takes (AsSent service) stream = worker_room (worker_view service.worker) service.room stream
 served_takes (Mapped service) stream = room_for stream service.fronts.core.room
 
 -- its core

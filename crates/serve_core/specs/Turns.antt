@@ -1,5 +1,5 @@
 -- A worker as the service of a server's loop: what a turn of the loop is on the worker (this project's own).
-use Rattle.std.specs.Prelude.{◌≡◌, ◌^◌, ◌-◌, ℕ, List, [], ◌∷◌, ◌++◌, length, drop}
+use Rattle.std.specs.Prelude.{◌≡◌, ◌==◌, ◌^◌, ◌-◌, ℕ, List, [], ◌∷◌, ◌++◌, length, drop, min, if◌then◌else◌}
 use Rattle.attributes.specs.declared.conn.Conn.{Conn}
 use Rattle.attributes.specs.Conn.{conn_view}
 use Rattle.std.specs.declared.sync.ArcStr.{ArcStr}
@@ -10,7 +10,7 @@ use Rattle.serve_loop.specs.declared.stream.Stream.{Stream}
 use Rattle.serve_loop.specs.declared.stream.Stream.TheVariants.{Place, Updates}
 use Rattle.serve_loop.specs.History as history
 use Rattle.serve_loop.specs.History.{EventValue, Step, accepted, connected, received, closed, drain, answered, no_memory, took, gave, Turn as LoopTurn}
-use Rattle.rbac_serve.specs.Tables.{WorkerValue, new_worker, waiting_at}
+use Rattle.rbac_serve.specs.Tables.{WorkerValue, body_at, new_worker, waiting_at}
 use Rattle.rbac_serve.specs.Turns.{Turn, TurnsDo, called, answer_sent, request_sent}
 
 -- the facts of a connection, as the loop has them
@@ -91,7 +91,17 @@ added_by drain before w = []
 abbrev pub Waits : List ServerTurn → WorkerValue → Type 0
 Waits turns w = (s : Stream) → history.waiting_at s turns ≡ waits_for s w
 
--- how many bytes of a stream are taken: of a connection any number, of the updates so many
+-- how many bytes of a stream are taken at most: of a connection any number, of the updates so many
 abbrev pub room_for : Stream → ℕ → ℕ
 room_for (Place k) updates = 2 ^ 64 - 1
 room_for Updates updates = updates
+
+-- how many bytes of a connection are taken if so many are left of a body: no more than these, so that the next request
+-- begins with another event
+abbrev pub bytes_taken : ℕ → ℕ
+bytes_taken left = if left == 0 then 2 ^ 64 - 1 else min left (2 ^ 64 - 1)
+
+-- how many bytes of a stream the worker takes, if it takes so many of the updates
+abbrev pub worker_room : WorkerValue → ℕ → Stream → ℕ
+worker_room w updates (Place k) = bytes_taken (body_at (step.front_at w.core k))
+worker_room w updates Updates = updates

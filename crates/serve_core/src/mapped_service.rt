@@ -97,7 +97,10 @@ impl Service<Conn> for MappedService<'_> {
     ghost takes = { λ s stream. room_for stream s.fronts.core.room };
 
     fn room(&self, stream: Stream) -> usize {
-        self.fronts.core.room(stream)
+        match stream {
+            Stream::Place(_) => usize::MAX,
+            Stream::Updates => self.fronts.core.room,
+        }
     }
 
     fn take(&mut self, event: &Event<'_, Conn>) -> Result<Outcome, AllocError> {

@@ -5,7 +5,7 @@ ghost use Rattle.serve_loop.specs.Events.{event_view};
 ghost use Rattle.serve_loop.specs.History.{Fits, answered, gave, no_memory, took, waiting_at};
 ghost use Rattle.serve_core.specs.Cores.{Tells, Turns, core_view};
 ghost use Rattle.serve_core.specs.Setups.{SetupValue, setup_of};
-ghost use Rattle.serve_core.specs.Turns.{added_by, kept_before, room_for};
+ghost use Rattle.serve_core.specs.Turns.{added_by, bytes_taken, kept_before, room_for, worker_room};
 
 use crate::events::{added, happen, sent_of, unsent_of, waiting_before};
 use crate::last_event::LastEvent;
@@ -83,11 +83,11 @@ impl Service<Conn> for WorkerService {
 
     ghost places = { λ (setup : SetupValue). setup.places };
 
-    ghost takes = { λ s stream. room_for stream s.room };
+    ghost takes = { λ s. worker_room (worker_view s.worker) s.room };
 
     fn room(&self, stream: Stream) -> usize {
         match stream {
-            Stream::Place(_) => usize::MAX,
+            Stream::Place(k) => bytes_taken(self.worker.rest_of_body(k)),
             Stream::Updates => self.room,
         }
     }
@@ -103,4 +103,15 @@ impl Service<Conn> for WorkerService {
     fn sent(&mut self, stream: Stream, count: usize) {
         self.give(stream, count);
     }
+}
+
+// How many bytes of a connection are taken at once. Of a body no more than is left, so that the next request begins with
+// another event, and between two requests the connection is fresh.
+fn bytes_taken(left: u64) -> usize
+    ensures { result ≡ bytes_taken left }
+{
+    if left == 0 {
+        return usize::MAX;
+    }
+    left.min(usize::MAX as u64) as usize
 }

@@ -1,0 +1,22 @@
+-- How many bytes a worker takes.
+use Rattle.std.proofs.Common.{ℕ, zero, suc, ◌^◌, ◌-◌, ◌≤◌, min, arith}
+use Rattle.std.proofs.Math.Nat.{le_trans, min-le_right}
+use Rattle.rbac_serve.specs.Tables.{WorkerValue, body_at}
+use Rattle.proxy_core.specs.Step.{front_at}
+use Rattle.serve_loop.specs.History.{Fits, accepted, closed, connected, drain, received}
+use Rattle.serve_loop.specs.declared.stream.Stream.TheVariants.{Place, Updates}
+use Rattle.serve_core.specs.Turns.{ServerEvent, bytes_taken, room_for, worker_room}
+
+-- never more than a read can give
+taken_most : (left : ℕ) → bytes_taken left ≤ 2 ^ 64 - 1
+taken_most zero = arith
+taken_most (suc n) = min-le_right (suc n) (2 ^ 64 - 1)
+
+-- what a worker takes, a step of it takes
+pub fits_more : (w : WorkerValue) (n : ℕ) (event : ServerEvent) → Fits (worker_room w n) event → Fits (λ s. room_for s n) event
+fits_more w n (received (Place k) bytes) fits = (fits.0, le_trans fits.1 (taken_most (body_at (front_at w.core k))))
+fits_more w n (received Updates bytes) fits = fits
+fits_more w n (accepted k conn) fits = fits
+fits_more w n connected fits = fits
+fits_more w n (closed s) fits = fits
+fits_more w n drain fits = fits
