@@ -136,6 +136,24 @@ def rotation(case):
     case.same("the number of the last file", last["file"], len(files))
 
 
+def amid_bodies(case):
+    """A client that never stops between two requests: each piece that it sends has the end of a body, a head and the beginning of a
+    body. New files of the record have its requests all the same, and replay to what it got."""
+    server, _, _ = case.ready(record={"path": "record", "bytes": 65_536, "files": 99}, access_log={"path": "log"})
+    head, first, rest = POST[:-2] + b"Content-Length: 2000\r\n\r\n", b"a" * 900, b"\r\n\r\n" + b"b" * 1_096
+    peer = server.answers("the first one", [(head + first, allowed(b"0", 1))])
+    for _ in range(99):
+        server.answers("one amid bodies", [(rest + head + first, allowed(b"0", 1))], peer)
+    case.until("all are logged", lambda: len(server.logged("log")) == 100)
+    files = sorted((it.name for it in case.folder.glob("record*")), key=lambda it: -int(it[7:] or 0))
+    case.holds("there are several files", len(files) > 3, files)
+    parts = [replayed(case, name, numbers(case, server)[peer.getsockname()[1]]) for name in files]
+    case.same("the connection", b"".join(parts), allowed(b"0", 1) * 100)
+    case.holds("each file has some of it", all(parts), [len(part) for part in parts])
+    places = {line["record"]["file"] for line in server.logged("log")}
+    case.same("the files of the lines", places, set(range(1, len(files) + 1)))
+
+
 def fed(case, record):
     """The bytes of the update stream in a file of the record."""
     return b"".join(bytes.fromhex(it["hex"]) for it in events(case, record) if it["event"] == "ads_bytes")
@@ -191,4 +209,4 @@ def full_record(case):
     case.same("its replay", replayed(case, "record", 0), GET_YES)
 
 
-CASES = {it.__name__: it for it in (removed_record, record, rotation, lost_streams, full_record)}
+CASES = {it.__name__: it for it in (removed_record, record, rotation, amid_bodies, lost_streams, full_record)}
