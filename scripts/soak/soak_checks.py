@@ -1,5 +1,6 @@
 """What scripts/soak/soak checks beside the answers: the server's memory and descriptors, its own counts, and what it recorded."""
 import concurrent.futures
+import contextlib
 import json
 import os
 import pathlib
@@ -16,15 +17,19 @@ PATIENCE = 20
 LAST = 5
 # every so many seconds the counts are asked for
 SCRAPE = 5
+# so many seconds a file that was removed may stay open
+KEPT_OPEN = 10
 
 
 class Watch:
-    """The resident memory of a process each second, without the pages of files, and its descriptors before the load. Now and then
-    the server is asked for its counts, as a monitor would."""
+    """The resident memory of a process each second, without the pages of files, and its descriptors before the load. Files that were
+    removed and stay open. Now and then the server is asked for its counts, as a monitor would."""
 
     def __init__(self, pid, port, warm):
         self.pid, self.port, self.warm = pid, port, warm
         self.sizes, self.wrong = [], []
+        # for how many looks in a row a file that was removed is open, by its descriptor and name
+        self.removed = {}
         self.descriptors = self.count()
         self.ends = threading.Event()
         self.thread = threading.Thread(target=self.run, daemon=True)
@@ -49,6 +54,18 @@ class Watch:
                 return
             if found:
                 self.sizes.append((time.monotonic() - begun, int(found[1]) * 1024))
+            self.look_for_removed()
+
+    def look_for_removed(self):
+        """Notes the files that were removed and stay open: their room on the disk is not free."""
+        found = {}
+        for it in pathlib.Path(f"/proc/{self.pid}/fd").iterdir():
+            with contextlib.suppress(FileNotFoundError):  # it was closed meanwhile
+                name = os.readlink(it)
+                if name.endswith(" (deleted)"):
+                    found[it.name, name] = self.removed.get((it.name, name), 0) + 1
+        self.removed = found
+        self.wrong += [f"{name}: open for {KEPT_OPEN} s after it was removed" for (_, name), looks in found.items() if looks == KEPT_OPEN]
 
     def count(self):
         return len(os.listdir(f"/proc/{self.pid}/fd"))

@@ -1,5 +1,5 @@
 """The odd connections of scripts/soak/soak, each kind again and again in a thread of its own: resets amid a head, slow heads, clients that
-never read, half closes, heads that are a byte too long, heads that are none."""
+never read, half closes, heads that are a byte too long, heads that are none, and pieces that never end between two requests."""
 import socket
 import struct
 import threading
@@ -175,9 +175,26 @@ def is_no_head(odd, it):
         odd.tally.answers["none"] += 1
 
 
+def is_amid_bodies(odd, it):
+    """Pieces that never end between two requests: each has the end of a body, a head and the beginning of a body."""
+    odd.connect(it)
+    reader = odd.reader()
+    rest = b""
+    for _ in range(odd.chance.randrange(2, 100)):
+        body = odd.chance.randbytes(odd.chance.randrange(2, 5_000))
+        cut = odd.chance.randrange(1, len(body))
+        head = soak_policies.request_of(0, reader.generation, b"POST", b"Content-Length: %d\r\n" % len(body))
+        reader.ask(0, reader.generation, b"POST")
+        it.sendall(rest + head + body[:cut])
+        odd.read_all(it, reader, is_open=True)
+        rest = body[cut:]
+        if odd.tally.wrong or odd.shared.ends.value:
+            return
+
+
 def run_odd(shared, port, seed, floods, results):
     """A process of all odd kinds, until the end."""
-    ways = [resets, is_slow, is_slow, is_too_slow, is_too_slow, half_closes, is_too_long, is_no_head]
+    ways = [resets, is_slow, is_slow, is_too_slow, is_too_slow, half_closes, is_too_long, is_no_head, is_amid_bodies]
     ways += [never_reads, never_reads] if floods else []
     odds = [Odd(shared, port, seed + number, way) for number, way in enumerate(ways)]
     for odd in odds:
