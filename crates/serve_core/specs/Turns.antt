@@ -96,8 +96,8 @@ abbrev pub room_for : Stream → ℕ → ℕ
 room_for (Place k) updates = 2 ^ 64 - 1
 room_for Updates updates = updates
 
--- how many bytes of a connection are taken if so many are left of a body: no more than these, so that the next request
--- begins with another event
+-- how many bytes of a connection are taken if so many are left of a body: no more than these. So the next request begins
+-- with another event
 abbrev pub bytes_taken : ℕ → ℕ
 bytes_taken left = if left == 0 then 2 ^ 64 - 1 else min left (2 ^ 64 - 1)
 

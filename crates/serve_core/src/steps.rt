@@ -105,8 +105,8 @@ impl Service<Conn> for WorkerService {
     }
 }
 
-// How many bytes of a connection are taken at once. Of a body no more than is left, so that the next request begins with
-// another event, and between two requests the connection is fresh.
+// How many bytes of a connection are taken at once: of a body no more than is left. So the next request begins with
+// another event, and the connection is fresh between the two.
 fn bytes_taken(left: u64) -> usize
     ensures { result ≡ bytes_taken left }
 {
