@@ -1,6 +1,6 @@
 -- How many bytes a worker takes.
-use Rattle.std.proofs.Common.{ℕ, zero, suc, ◌^◌, ◌-◌, ◌≤◌, min, arith}
-use Rattle.std.proofs.Math.Nat.{le_trans, min-le_right}
+use Rattle.std.proofs.Common.{ℕ, zero, suc, ◌^◌, ◌-◌, ◌≤◌, min}
+use Rattle.std.proofs.Math.Nat.{le_refl, le_trans, min-le_right}
 use Rattle.rbac_serve.specs.Tables.{WorkerValue, body_at}
 use Rattle.proxy_core.specs.Step.{front_at}
 use Rattle.serve_loop.specs.History.{Fits, accepted, closed, connected, drain, received}
@@ -9,7 +9,7 @@ use Rattle.serve_core.specs.Turns.{ServerEvent, bytes_taken, room_for, worker_ro
 
 -- never more than a read can give
 taken_most : (left : ℕ) → bytes_taken left ≤ 2 ^ 64 - 1
-taken_most zero = arith
+taken_most zero = le_refl (2 ^ 64 - 1)
 taken_most (suc n) = min-le_right (suc n) (2 ^ 64 - 1)
 
 -- what a worker takes, a step of it takes
