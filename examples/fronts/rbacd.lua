@@ -12,6 +12,7 @@ end
 
 -- fields about the connection or the body, which rbacd does not get
 local LEFT_OUT = set_of("connection content-length expect transfer-encoding")
+-- LEFT_OUT.cookie = true -- for cookies of more than 4,096 bytes: then each filter finds none, and no DENY on one matches
 -- fields that stay, also if Connection lists them: HAProxy reads them itself
 local KEPT = set_of("connection content-length host transfer-encoding upgrade")
 

@@ -37,8 +37,10 @@ type Facts struct {
 // each, in the order of decide.h.
 type worker struct {
 	handle   C.vupresal_filter
+	ignored  []string
 	texts    []byte
 	lengths  []C.size_t
+	lines    int
 	numbers  C.vupresal_go_numbers
 	decision C.vupresal_decision
 }
@@ -51,13 +53,18 @@ func (w *worker) text(text string) {
 	w.lengths = append(w.lengths, C.size_t(len(text)))
 }
 
-// pack writes the request and the facts, in place of those before.
+// pack writes the request without its ignored lines, and the facts, in place of those before.
 func (w *worker) pack(request *Request, facts *Facts) {
 	w.texts, w.lengths = w.texts[:0], w.lengths[:0]
 	w.text(request.Method)
 	w.text(request.Target)
 	w.packFacts(facts)
+	w.lines = 0
 	for i := range request.Lines {
+		if isAmong(w.ignored, request.Lines[i].Name) {
+			continue
+		}
+		w.lines++
 		w.text(request.Lines[i].Name)
 		w.text(request.Lines[i].Value)
 	}
@@ -127,5 +134,5 @@ func port(at netip.AddrPort) C.int32_t {
 // decide asks the filter by one call of C.
 func (w *worker) decide(request *Request, facts *Facts) C.int32_t {
 	w.pack(request, facts)
-	return C.vupresal_go_decide(&w.handle, (*C.uint8_t)(&w.texts[0]), &w.lengths[0], C.size_t(len(request.Lines)), &w.numbers, &w.decision)
+	return C.vupresal_go_decide(&w.handle, (*C.uint8_t)(&w.texts[0]), &w.lengths[0], C.size_t(w.lines), &w.numbers, &w.decision)
 }

@@ -74,6 +74,9 @@ type Options struct {
 	Bounds Bounds
 	// Visits bounds the measuring of the filter's conditions: 4,194,304 by default.
 	Visits uint64
+	// Ignore names fields, in any case, whose lines are left out of each request before the limits apply. A filter that reads such a
+	// field finds none: a DENY on it never matches. MayReadIgnored tells which of these a filter may read.
+	Ignore []string
 }
 
 // Bounds are the limits of the requests that a filter is asked for: 1 to 64 field lines with 3 for the method, the path and the scheme, 1
@@ -103,9 +106,12 @@ type Filter struct {
 	once    sync.Once
 	// the policies' names, in ascending order
 	names []string
+	// the ignored names that its message has as a text
+	suspects []string
 }
 
-// Admit admits the message of an HTTP RBAC filter. The error is a *Refusal if the message is at fault.
+// Admit admits the message of an HTTP RBAC filter. The error is a *Refusal if the message is at fault. There is another error if an ignored
+// name is that of no field, or of the host.
 func Admit(message []byte, options Options) (*Filter, error) {
 	if !bool(C.vupresal_is_expected()) {
 		return nil, errors.New("vupresal: the library has another version than its header")
@@ -116,9 +122,14 @@ func Admit(message []byte, options Options) (*Filter, error) {
 	if options.Workers <= 0 {
 		options.Workers = runtime.GOMAXPROCS(0)
 	}
-	filter := &Filter{workers: make(chan *worker, options.Workers), closed: make(chan struct{})}
+	ignored, err := ignoredOf(options.Ignore)
+	if err != nil {
+		return nil, err
+	}
+	filter := &Filter{workers: make(chan *worker, options.Workers), closed: make(chan struct{}), suspects: textsAmong(message, ignored)}
 	workers := make([]worker, options.Workers)
 	for i := range workers {
+		workers[i].ignored = ignored
 		filter.workers <- &workers[i]
 	}
 	first := &workers[0].handle
@@ -148,6 +159,10 @@ func (f *Filter) Close() {
 		}
 	})
 }
+
+// MayReadIgnored are those names of Options.Ignore, in lower case, that the filter's message has as a text: its policies may read these
+// fields, and find none. A name that a condition puts together, or meets in a loop over all headers, is not found.
+func (f *Filter) MayReadIgnored() []string { return append([]string(nil), f.suspects...) }
 
 // Decide gives the decision on a request. Without an error the decision counts; with one it refuses.
 func (f *Filter) Decide(request *Request, facts *Facts) (Decision, error) {

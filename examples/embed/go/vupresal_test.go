@@ -132,6 +132,82 @@ func TestBounds(t *testing.T) {
 	}
 }
 
+// denyCookie is a filter that denies each request with a field cookie, which its message names Cookie.
+var denyCookie = []byte("\n\x1b\b\x01\x12\x17\n\x01p\x12\x12\n\x0c\x22\n\n\x06Cookie8\x01\x12\x02\x18\x01")
+
+// admitted is the filter of a message.
+func admitted(t testing.TB, message []byte, options Options) *Filter {
+	t.Helper()
+	filter, err := Admit(message, options)
+	if err != nil {
+		t.Fatal(err)
+	}
+	t.Cleanup(filter.Close)
+	return filter
+}
+
+func TestIgnored(t *testing.T) {
+	long := strings.Repeat("c", 5000)
+	all, none := example(t, "any_any.bin"), []string(nil)
+	many := make([]Line, 60)
+	for i := range many {
+		many[i] = Line{"x" + strings.Repeat("y", i), "v"}
+	}
+	for _, row := range []struct {
+		name    string
+		message []byte
+		ignore  []string
+		lines   []Line
+		want    bool
+		fault   error
+	}{
+		{"a long cookie", all, none, []Line{{"Cookie", long}}, false, OutsideLimits},
+		{"a long cookie that is ignored", all, []string{"cookie"}, []Line{{"Cookie", long}}, true, nil},
+		{"in other cases", all, []string{"COOkie"}, []Line{{"cooKIE", long}, {"COOKIE", long}}, true, nil},
+		{"another long field", all, []string{"cookie"}, []Line{{"Cookie", long}, {"Cookie2", long}}, false, OutsideLimits},
+		{"one that begins like it", all, []string{"cookie2"}, []Line{{"Cookie", long}}, false, OutsideLimits},
+		{"a letter that Unicode lowers to k", all, []string{"cookie"}, []Line{{"coo\u212aie", "v"}}, false, BadRequest},
+		{"many fields", all, []string{"cookie"}, append(many[:60:60], Line{"cookie", ""}, Line{"cookie", ""}), true, nil},
+		{"too many fields", all, []string{"cookie"}, append(many[:60:60], Line{"cookie2", ""}), false, OutsideLimits},
+		{"a transfer coding", all, []string{"transfer-encoding"}, []Line{{"Transfer-Encoding", "chunked"}}, true, nil},
+		{"a DENY", denyCookie, none, []Line{{"cookie", "a"}}, false, nil},
+		{"a DENY without the field", denyCookie, none, nil, true, nil},
+		{"a DENY on an ignored name", denyCookie, []string{"x", "cookie"}, []Line{{"cookie", "a"}}, true, nil},
+		{"a DENY on another name", denyCookie, []string{"x"}, []Line{{"cookie", "a"}}, false, nil},
+	} {
+		got, err := admitted(t, row.message, Options{Workers: 2, Ignore: row.ignore}).Decide(get("/", row.lines...), &Facts{Scheme: "http"})
+		if got.Allowed != row.want || !errors.Is(err, row.fault) {
+			t.Errorf("%s: %v, %v; want %v, %v", row.name, got, err, row.want, row.fault)
+		}
+	}
+}
+
+func TestIgnoredNames(t *testing.T) {
+	for _, row := range []struct{ name, want string }{
+		{"", "is not the name of a field"}, {"a b", "is not the name of a field"}, {"a:", "is not the name of a field"}, {"\u00e9", "is not the name of a field"},
+		{"coo\u212aie", "is not the name of a field"}, {"x\n", "is not the name of a field"}, {"x\xff", "is not the name of a field"}, {":path", "is no field"},
+		{":authority", "is no field"}, {"host", "cannot be ignored"}, {"HOST", "cannot be ignored"},
+	} {
+		filter, err := Admit(example(t, "any_any.bin"), Options{Ignore: []string{"cookie", row.name}})
+		if filter != nil || err == nil || !strings.Contains(err.Error(), row.want) {
+			t.Errorf("%q: %v; want %q", row.name, err, row.want)
+		}
+	}
+	for _, row := range []struct {
+		ignore, want []string
+	}{
+		{nil, nil}, {[]string{"x"}, nil}, {[]string{"x", "COOKIE"}, []string{"cookie"}}, {[]string{"ookie", "cooki"}, nil},
+		{[]string{"!#$%&'*+-.^_`|~09azAZ"}, nil},
+	} {
+		if got := admitted(t, denyCookie, Options{Ignore: row.ignore}).MayReadIgnored(); strings.Join(got, " ") != strings.Join(row.want, " ") {
+			t.Errorf("%v: %v; want %v", row.ignore, got, row.want)
+		}
+	}
+	if got := textsAmong([]byte("\x09useragent\x02id"), []string{"user-agent", "x-request-id"}); len(got) != 2 {
+		t.Errorf("attributes: %v", got)
+	}
+}
+
 // TestManyLines has more lines than fit the stack of decide.h; the requests after them have no more of theirs.
 func TestManyLines(t *testing.T) {
 	filter := filterOf(t, "any_any.bin", Options{Workers: 1})
@@ -162,7 +238,7 @@ func TestFacts(t *testing.T) {
 
 // TestAllocations decides without memory of Go's heap.
 func TestAllocations(t *testing.T) {
-	filter, request := filterOf(t, "condition.bin", Options{Workers: 1}), get("/about")
+	filter, request := filterOf(t, "condition.bin", Options{Workers: 1, Ignore: []string{"cookie"}}), get("/about", Line{"Cookie", "a"}, Line{"x", "v"})
 	facts := &Facts{Scheme: "http", Source: netip.MustParseAddrPort("10.0.0.1:80"), RemoteIP: netip.MustParseAddr("10.0.0.1")}
 	if found := testing.AllocsPerRun(100, func() {
 		if _, err := filter.Decide(request, facts); err != nil {
@@ -219,6 +295,33 @@ func TestManyGoroutines(t *testing.T) {
 		}()
 	}
 	all.Wait()
+}
+
+// TestHandlerIgnores has a next handler that still gets the field.
+func TestHandlerIgnores(t *testing.T) {
+	next := http.HandlerFunc(func(w http.ResponseWriter, r *http.Request) {
+		if len(r.Header.Get("Cookie")) != 5000 {
+			t.Errorf("a cookie of %d bytes", len(r.Header.Get("Cookie")))
+		}
+		w.WriteHeader(http.StatusNoContent)
+	})
+	for want, options := range map[int]Options{431: {}, 204: {Ignore: []string{"cookie"}}} {
+		server := httptest.NewServer(filterOf(t, "any_any.bin", options).Handler(next))
+		request, err := http.NewRequest("GET", server.URL, nil)
+		if err != nil {
+			t.Fatal(err)
+		}
+		request.Header.Set("Cookie", strings.Repeat("c", 5000))
+		answer, err := http.DefaultClient.Do(request)
+		if err != nil {
+			t.Fatal(err)
+		}
+		answer.Body.Close()
+		server.Close()
+		if answer.StatusCode != want {
+			t.Errorf("%v: %d; want %d", options, answer.StatusCode, want)
+		}
+	}
 }
 
 func TestHandler(t *testing.T) {

@@ -12,14 +12,17 @@
  *   vupresal_target sent | normalised;       http, server, location. What is judged as the target: as the client sent it, or decoded,
  *                                            with dot segments resolved and slashes merged, as nginx compares it with locations, and
  *                                            encoded again. The query is as it was sent.
+ *   vupresal_ignore NAME.. | off;            http, server, location. Fields of these names, in any case, are left out of what is judged,
+ *                                            before the limits apply. A filter that reads one finds none, so a DENY on it never matches.
+ *                                            The names of a level take the place of those above it, and `off` leaves none.
  *   $vupresal_verdict                        allow, deny, or the status without a decision: 400, 431, 501, 19. Empty if none was asked.
  *   $vupresal_policy                         the name of the policy that matched.
  *
  * A request that is denied is answered 403. Without a decision it is answered 400, 431, 501, or 503 where memory ran out.
  *
  * A subrequest is not judged, since nginx has no access phase for it: the verdict is that of the request that it is made for. An
- * internal redirect is judged again if its location has another filter; the same filter is asked once for a request, so an error page
- * of a denied request can be sent.
+ * internal redirect is judged again if its location has another filter, or ignores other fields; the same filter is asked once for a
+ * request, so an error page of a denied request can be sent.
  *
  * A worker has one thread, and so has the process that reads the configuration: a worker's filters are copies by fork.
  */
@@ -36,6 +39,8 @@ typedef struct {
     uint64_t         budget;
     vupresal_bounds  bounds;
     vupresal_filter  filter;
+    ngx_str_t        message; /* until the configuration is read */
+    ngx_array_t      warned;  /* of ngx_array_t *: the lists of ignored names that were compared with the message */
 } ngx_http_vupresal_filter_t;
 
 typedef struct {
@@ -43,13 +48,15 @@ typedef struct {
 } ngx_http_vupresal_main_conf_t;
 
 typedef struct {
-    ngx_http_vupresal_filter_t  *filter; /* NULL: off */
+    ngx_http_vupresal_filter_t  *filter;  /* NULL: off */
     ngx_uint_t                   target;
+    ngx_array_t                 *ignored; /* of ngx_str_t, in lower case; NULL: none */
 } ngx_http_vupresal_loc_conf_t;
 
 /* The last verdict on a request, which an internal redirect does not forget. */
 typedef struct {
     ngx_http_vupresal_filter_t  *filter;
+    ngx_array_t                 *ignored;
     int32_t                      status;
     vupresal_decision            decision;
 } ngx_http_vupresal_verdict_t;
@@ -58,6 +65,7 @@ static void *ngx_http_vupresal_create_main_conf(ngx_conf_t *cf);
 static void *ngx_http_vupresal_create_loc_conf(ngx_conf_t *cf);
 static char *ngx_http_vupresal_merge_loc_conf(ngx_conf_t *cf, void *parent, void *child);
 static char *ngx_http_vupresal_set_filter(ngx_conf_t *cf, ngx_command_t *cmd, void *conf);
+static char *ngx_http_vupresal_set_ignored(ngx_conf_t *cf, ngx_command_t *cmd, void *conf);
 static ngx_int_t ngx_http_vupresal_add_variables(ngx_conf_t *cf);
 static ngx_int_t ngx_http_vupresal_init(ngx_conf_t *cf);
 
@@ -81,6 +89,13 @@ static ngx_command_t ngx_http_vupresal_commands[] = {
       NGX_HTTP_LOC_CONF_OFFSET,
       offsetof(ngx_http_vupresal_loc_conf_t, target),
       ngx_http_vupresal_targets },
+
+    { ngx_string("vupresal_ignore"),
+      NGX_HTTP_MAIN_CONF|NGX_HTTP_SRV_CONF|NGX_HTTP_LOC_CONF|NGX_CONF_1MORE,
+      ngx_http_vupresal_set_ignored,
+      NGX_HTTP_LOC_CONF_OFFSET,
+      0,
+      NULL },
 
       ngx_null_command
 };
@@ -162,6 +177,7 @@ ngx_http_vupresal_judge(ngx_http_request_t *r, ngx_http_vupresal_loc_conf_t *con
 
     ngx_memzero(&verdict->decision, sizeof(vupresal_decision));
     verdict->filter = conf->filter;
+    verdict->ignored = conf->ignored;
     verdict->status = VUPRESAL_BAD_REQUEST;
 
     /* a target with a host, as a client sends it to a proxy, is not judged */
@@ -171,7 +187,7 @@ ngx_http_vupresal_judge(ngx_http_request_t *r, ngx_http_vupresal_loc_conf_t *con
 
     facts = ngx_http_vupresal_facts(r);
 
-    if (facts == NULL || ngx_http_vupresal_request(r, conf->target, &request) != NGX_OK) {
+    if (facts == NULL || ngx_http_vupresal_request(r, conf->target, conf->ignored, &request) != NGX_OK) {
         verdict->status = VUPRESAL_MEMORY;
         return NGX_ERROR;
     }
@@ -212,7 +228,9 @@ ngx_http_vupresal_handler(ngx_http_request_t *r)
 
     verdict = ngx_http_vupresal_get_verdict(r);
 
-    if (verdict != NULL && verdict->filter == conf->filter && r->internal) {
+    if (verdict != NULL && verdict->filter == conf->filter && r->internal
+        && ngx_http_vupresal_same_ignored(verdict->ignored, conf->ignored))
+    {
         /* it was allowed; or it was refused, and this is the page for that */
         return NGX_OK;
     }
@@ -361,9 +379,34 @@ ngx_http_vupresal_create_loc_conf(ngx_conf_t *cf)
     if (conf != NULL) {
         conf->filter = NGX_CONF_UNSET_PTR;
         conf->target = NGX_CONF_UNSET_UINT;
+        conf->ignored = NGX_CONF_UNSET_PTR;
     }
 
     return conf;
+}
+
+
+/* Warns of ignored names that the filter may read, once for each filter and list of names. */
+static ngx_int_t
+ngx_http_vupresal_warn(ngx_conf_t *cf, ngx_http_vupresal_filter_t *filter, ngx_array_t *ignored)
+{
+    ngx_uint_t     i;
+    ngx_array_t  **warned = filter->warned.elts;
+
+    for (i = 0; i < filter->warned.nelts; i++) {
+        if (warned[i] == ignored) {
+            return NGX_OK;
+        }
+    }
+
+    warned = ngx_array_push(&filter->warned);
+    if (warned == NULL) {
+        return NGX_ERROR;
+    }
+
+    *warned = ignored;
+    ngx_http_vupresal_warn_ignored(cf, ignored, &filter->file, &filter->message);
+    return NGX_OK;
 }
 
 
@@ -375,6 +418,12 @@ ngx_http_vupresal_merge_loc_conf(ngx_conf_t *cf, void *parent, void *child)
 
     ngx_conf_merge_ptr_value(conf->filter, prev->filter, NULL);
     ngx_conf_merge_uint_value(conf->target, prev->target, NGX_HTTP_VUPRESAL_SENT);
+    ngx_conf_merge_ptr_value(conf->ignored, prev->ignored, NULL);
+
+    if (conf->filter != NULL && conf->ignored != NULL && ngx_http_vupresal_warn(cf, conf->filter, conf->ignored) != NGX_OK) {
+        return NGX_CONF_ERROR;
+    }
+
     return NGX_CONF_OK;
 }
 
@@ -421,7 +470,10 @@ ngx_http_vupresal_read(ngx_conf_t *cf, ngx_str_t *name, ngx_str_t *message)
 static void
 ngx_http_vupresal_free(void *data)
 {
-    vupresal_filter_free(data);
+    ngx_http_vupresal_filter_t  *filter = data;
+
+    vupresal_filter_free(&filter->filter);
+    ngx_free(filter->message.data);
 }
 
 
@@ -431,14 +483,14 @@ ngx_http_vupresal_admit(ngx_conf_t *cf, ngx_str_t *name, uint64_t budget, vupres
 {
     u_char                       place[512];
     int32_t                      status;
-    ngx_str_t                    message = ngx_null_string;
+    ngx_str_t                   *message;
     ngx_pool_cleanup_t          *cleanup;
     ngx_http_vupresal_filter_t  *filter;
 
     filter = ngx_pcalloc(cf->pool, sizeof(ngx_http_vupresal_filter_t));
     cleanup = ngx_pool_cleanup_add(cf->pool, 0);
 
-    if (filter == NULL || cleanup == NULL) {
+    if (filter == NULL || cleanup == NULL || ngx_array_init(&filter->warned, cf->pool, 1, sizeof(ngx_array_t *)) != NGX_OK) {
         return NULL;
     }
 
@@ -446,16 +498,15 @@ ngx_http_vupresal_admit(ngx_conf_t *cf, ngx_str_t *name, uint64_t budget, vupres
     filter->budget = budget;
     filter->bounds = *bounds;
     cleanup->handler = ngx_http_vupresal_free;
-    cleanup->data = &filter->filter;
+    cleanup->data = filter;
+    message = &filter->message;
 
-    if (ngx_http_vupresal_read(cf, name, &message) != NGX_OK) {
-        ngx_free(message.data);
+    if (ngx_http_vupresal_read(cf, name, message) != NGX_OK) {
         return NULL;
     }
 
     ngx_memzero(place, sizeof(place));
-    status = vupresal_filter_admit(&filter->filter, message.data, message.len, bounds, budget, place, sizeof(place));
-    ngx_free(message.data);
+    status = vupresal_filter_admit(&filter->filter, message->data, message->len, bounds, budget, place, sizeof(place));
 
     if (status != VUPRESAL_OK) {
         ngx_conf_log_error(NGX_LOG_EMERG, cf, 0, "\"%V\" is refused: %s: %s", name, vupresal_status_text(status), place);
@@ -591,11 +642,61 @@ ngx_http_vupresal_set_filter(ngx_conf_t *cf, ngx_command_t *cmd, void *data)
 }
 
 
+static char *
+ngx_http_vupresal_set_ignored(ngx_conf_t *cf, ngx_command_t *cmd, void *data)
+{
+    ngx_str_t                     *value = cf->args->elts;
+    ngx_http_vupresal_loc_conf_t  *conf = data;
+
+    if (conf->ignored == NULL) {
+        return "is `off` at this level";
+    }
+
+    if (ngx_strcmp(value[1].data, "off") == 0 && cf->args->nelts == 2) {
+        if (conf->ignored != NGX_CONF_UNSET_PTR) {
+            return "has names at this level";
+        }
+
+        conf->ignored = NULL;
+        return NGX_CONF_OK;
+    }
+
+    if (conf->ignored == NGX_CONF_UNSET_PTR) {
+        conf->ignored = ngx_array_create(cf->pool, 4, sizeof(ngx_str_t));
+        if (conf->ignored == NULL) {
+            return NGX_CONF_ERROR;
+        }
+    }
+
+    return ngx_http_vupresal_add_ignored(cf, conf->ignored);
+}
+
+
+/* Gives back the messages of the filters, with which no more names are compared. */
+static void
+ngx_http_vupresal_forget_messages(ngx_conf_t *cf)
+{
+    ngx_uint_t                       i;
+    ngx_http_vupresal_filter_t     **filter;
+    ngx_http_vupresal_main_conf_t   *main;
+
+    main = ngx_http_conf_get_module_main_conf(cf, ngx_http_vupresal_module);
+    filter = main->filters.elts;
+
+    for (i = 0; i < main->filters.nelts; i++) {
+        ngx_free(filter[i]->message.data);
+        ngx_str_null(&filter[i]->message);
+    }
+}
+
+
 static ngx_int_t
 ngx_http_vupresal_init(ngx_conf_t *cf)
 {
     ngx_http_handler_pt        *handler;
     ngx_http_core_main_conf_t  *main;
+
+    ngx_http_vupresal_forget_messages(cf);
 
     if (!vupresal_is_expected()) {
         ngx_conf_log_error(NGX_LOG_EMERG, cf, 0, "vupresal: the library has another version than its header");

@@ -316,19 +316,49 @@ ngx_http_vupresal_normalised(ngx_http_request_t *r, vupresal_bytes *target)
 }
 
 
-/* Whether nginx itself reads the body by this field. A filter sees the request without its framing. */
+/* Whether the field has this name, which is in lower case. */
 static ngx_uint_t
-ngx_http_vupresal_is_framing(const ngx_table_elt_t *field)
+ngx_http_vupresal_is_named(const ngx_table_elt_t *field, const ngx_str_t *name)
 {
-    static const ngx_str_t  name = ngx_string("transfer-encoding");
+    return field->key.len == name->len && ngx_strncasecmp(field->key.data, name->data, name->len) == 0;
+}
 
-    return field->key.len == name.len && ngx_strncasecmp(field->key.data, name.data, name.len) == 0;
+
+/* Whether the field is left out. So are the ignored ones, and the one by which nginx itself reads the body: a filter sees the request
+   without its framing. */
+static ngx_uint_t
+ngx_http_vupresal_is_left_out(const ngx_table_elt_t *field, const ngx_array_t *ignored)
+{
+    static const ngx_str_t  framing = ngx_string("transfer-encoding");
+
+    ngx_uint_t              i;
+    const ngx_str_t        *name;
+
+    if (ngx_http_vupresal_is_named(field, &framing)) {
+        return 1;
+    }
+
+    if (ignored == NULL) {
+        return 0;
+    }
+
+    name = ignored->elts;
+
+    for (i = 0; i < ignored->nelts; i++) {
+        if (ngx_http_vupresal_is_named(field, &name[i])) {
+            return 1;
+        }
+    }
+
+    return 0;
 }
 
 
 static ngx_int_t
-ngx_http_vupresal_lines(ngx_http_request_t *r, vupresal_request *request)
+ngx_http_vupresal_lines(ngx_http_request_t *r, const ngx_array_t *ignored, vupresal_request *request)
 {
+    static const ngx_str_t  host = ngx_string("host");
+
     size_t            count = 1; /* room for a host */
     ngx_uint_t        i, has_host = 0;
     ngx_list_part_t  *part;
@@ -350,11 +380,11 @@ ngx_http_vupresal_lines(ngx_http_request_t *r, vupresal_request *request)
         field = part->elts;
 
         for (i = 0; i < part->nelts; i++) {
-            if (ngx_http_vupresal_is_framing(&field[i])) {
+            if (ngx_http_vupresal_is_left_out(&field[i], ignored)) {
                 continue;
             }
 
-            has_host |= field[i].key.len == 4 && ngx_strncasecmp(field[i].key.data, (u_char *) "host", 4) == 0;
+            has_host |= ngx_http_vupresal_is_named(&field[i], &host);
             line->name = ngx_http_vupresal_bytes(&field[i].key);
             line->value = ngx_http_vupresal_bytes(&field[i].value);
             line++;
@@ -374,7 +404,7 @@ ngx_http_vupresal_lines(ngx_http_request_t *r, vupresal_request *request)
 
 
 ngx_int_t
-ngx_http_vupresal_request(ngx_http_request_t *r, ngx_uint_t kind, vupresal_request *request)
+ngx_http_vupresal_request(ngx_http_request_t *r, ngx_uint_t kind, const ngx_array_t *ignored, vupresal_request *request)
 {
     request->method = ngx_http_vupresal_bytes(&r->method_name);
     request->target = ngx_http_vupresal_bytes(&r->unparsed_uri);
@@ -385,5 +415,5 @@ ngx_http_vupresal_request(ngx_http_request_t *r, ngx_uint_t kind, vupresal_reque
         return NGX_ERROR;
     }
 
-    return ngx_http_vupresal_lines(r, request);
+    return ngx_http_vupresal_lines(r, ignored, request);
 }

@@ -1,20 +1,34 @@
 """Tests of the package, with the filters of the folder examples."""
 
 import concurrent.futures
+import contextlib
 import os
 import pathlib
 import pickle
 import threading
 import unittest
+import warnings
+from typing import Callable, List, Tuple, Union
 
 from vupresal import Bounds, Decision, EachThread, Error, Facts, Filter, Refused, is_proved
 
 EXAMPLES = pathlib.Path(os.environ.get("VUPRESAL_EXAMPLES") or pathlib.Path(__file__).resolve().parent.parent.parent)
-HOST = [("Host", "h")]
+Text = Union[str, bytes]
+HOST: List[Tuple[Text, Text]] = [("Host", "h")]
+# a filter that denies each request with a field cookie, which its message names Cookie
+DENY_COOKIE = bytes.fromhex("0a1b0801 1217 0a0170 1212 0a0c 220a 0a06") + b"Cookie" + bytes.fromhex("3801 12021801")
 
 
 def example(name: str) -> bytes:
     return (EXAMPLES / name).read_bytes()
+
+
+def answered(ask: Callable[[], Decision]) -> int:
+    """The status that a server would answer with."""
+    try:
+        return 200 if ask().allowed else 403
+    except Error as error:
+        return error.status
 
 
 class Filters(unittest.TestCase):
@@ -87,6 +101,66 @@ class Filters(unittest.TestCase):
             with self.subTest(outside=outside), self.assertRaises(Refused) as raised:
                 Filter(example("any_any.bin"), bounds=outside)
             self.assertEqual(raised.exception.status, -2)
+
+    def test_ignored_fields(self) -> None:
+        long, every = "c" * 5000, example("any_any.bin")
+        sixty = [(f"x-{at}", "v") for at in range(60)]
+        rows: List[Tuple[bytes, List[str], List[Tuple[Text, Text]], int]] = [
+            (every, [], [("Cookie", long)], 431), (every, ["cookie"], [("Cookie", long)], 200), (every, ["COOkie"], [("cooKIE", long), (b"COOKIE", long)], 200),
+            (every, ["cookie"], [("Cookie", long), ("Cookie2", long)], 431), (every, ["cookie2"], [("Cookie", long)], 431),
+            (every, ["cookie"], [*sixty, ("cookie", ""), ("cookie", "")], 200), (every, ["cookie"], [*sixty, ("cookie2", "")], 431),
+            (every, ["transfer-encoding"], [("Transfer-Encoding", "chunked")], 200), (every, ["x"], [("X", "v"), ("Transfer-Encoding", "chunked")], 501),
+            (every, ["a.c"], [("abc", long)], 431), (DENY_COOKIE, [], [("cookie", "a")], 403), (DENY_COOKIE, [], [], 200),
+            (DENY_COOKIE, ["x", "cookie"], [("cookie", "a")], 200), (DENY_COOKIE, ["x"], [("cookie", "a")], 403)]
+        with warnings.catch_warnings():
+            warnings.simplefilter("ignore")
+            for message, ignore, lines, wanted in rows:
+                for one in (Filter(message, ignore=ignore), Filter(message, ignore=iter(ignore)).share(), EachThread(message, ignore=ignore).filter):
+                    with self.subTest(ignore=ignore, lines=lines):
+                        self.assertEqual(answered(lambda: one.decide("GET", "/", HOST + lines)), wanted)
+                        head = "".join(f"{name if isinstance(name, str) else name.decode()}: {value}\r\n" for name, value in HOST + lines)
+                        for end in ("\r\n", "\n"):
+                            text = f"\r\n\nGET / HTTP/1.1\r\n{head}\r\n".replace("\r\n", end)
+                            self.assertEqual(answered(lambda: one.decide_head(text.encode())), wanted)
+            with Filter(every, ignore=["cookie"]) as one:
+                # a letter that Unicode lowers to k is no name of a field
+                self.assertEqual(answered(lambda: one.decide("GET", "/", HOST + [("coo\u212aie", "v")])), 400)
+                for wrong in ([("cookie", "a", "b")], [("cookie",)], [(None, "a")], [(1, "a")]):
+                    with self.assertRaises((TypeError, ValueError)):
+                        one.decide("GET", "/", HOST + wrong)  # type: ignore[operator]
+
+    def test_ignored_lines_of_a_head(self) -> None:
+        """What is no whole line of an ignored name stays, so the head has the same fault."""
+        rows = [("GET / HTTP/1.1\r\nCookie: a\r\nHost: h\r\nCOOKIE:b\r\ncookie:\r\n\r\n", 200), ("GET / HTTP/1.1\r\nHost: h\r\nCookie : a\r\n\r\n", 400),
+                ("GET / HTTP/1.1\r\nHost: h\r\nCookie: a\r\n b\r\n\r\n", 400), ("GET / HTTP/1.1\r\nHost: h\r\n Cookie: a\r\n\r\n", 400),
+                ("GET / HTTP/1.1\r\nHost: h\r\nCookie: a\0\r\n\r\n", 400), ("GET / HTTP/1.1\r\nHost: h\r\nCookie: a\rb\r\n\r\n", 400),
+                ("GET / HTTP/1.1\r\nHost: h\r\nCookie: a\r\r\n\r\n", 400), ("GET / HTTP/1.1\r\nHost: h\r\nCookie: a", 400),
+                ("Cookie: a\r\nGET / HTTP/1.1\r\nHost: h\r\n\r\n", 400), ("\r\nCookie: a\r\nGET / HTTP/1.1\r\nHost: h\r\n\r\n", 400),
+                ("GET / HTTP/1.1\rCookie: a\r\nHost: h\r\n\r\n", 400), ("", 400), ("\r\n", 400), ("Cookie: a\r\n\r\n", 400), ("GET / HTTP/1.1\r\nHost: h\r\nCookie\r\n\r\n", 400),
+                ("GET / HTTP/1.1\r\nHost: h\r\nCookie: \xff\r\n\r\n", 200), ("GET / HTTP/1.1\r\nHost: h\r\nx: a\rcookie: b\r\n\r\n", 400)]
+        with Filter(example("any_any.bin"), ignore=["cookie"]) as one:
+            for head, wanted in rows:
+                with self.subTest(head=head):
+                    self.assertEqual(answered(lambda: one.decide_head(head.encode("latin-1"))), wanted)
+            with self.assertRaises(TypeError):
+                one.decide_head("GET / HTTP/1.1\r\nHost: h\r\n\r\n")  # type: ignore[arg-type]
+
+    def test_ignored_names(self) -> None:
+        for name, told in (("", "not the name"), ("a b", "not the name"), ("a:", "not the name"), ("\u00e9", "not the name"), ("coo\u212aie", "not the name"),
+                           ("x\n", "not the name"), (":path", "no field"), (":authority", "no field"), ("host", "cannot be ignored"), ("HOST", "cannot be ignored")):
+            with self.subTest(name=name), self.assertRaisesRegex(ValueError, told):
+                Filter(example("any_any.bin"), ignore=["cookie", name])
+        for wrong in ("cookie", b"cookie", [b"cookie"], [None], None):
+            with self.subTest(wrong=wrong), self.assertRaises(TypeError):
+                Filter(example("any_any.bin"), ignore=wrong)  # type: ignore[arg-type]
+        attributes = b"\x09useragent\x02id"
+        for message, ignore, names in ((DENY_COOKIE, [], ()), (DENY_COOKIE, ["x", "COOKIE", "cookie"], ("cookie",)), (DENY_COOKIE, ["ookie", "cooki", "!#$%&'*+-.^_`|~09azAZ"], ()),
+                                       (DENY_COOKIE + b"\x1a" + bytes([len(attributes)]) + attributes, ["user-agent", "x-request-id"], ("user-agent", "x-request-id"))):
+            with self.subTest(ignore=ignore), warnings.catch_warnings(record=True) as told:
+                warnings.simplefilter("always")
+                with contextlib.suppress(Refused), Filter(message, ignore=ignore) as one, one.share() as other:
+                    self.assertEqual((one.may_read_ignored, other.may_read_ignored), (names, names))
+                self.assertEqual([str(it.message) for it in told], [f"the filter may read the field {name}, which is ignored: it finds none" for name in names])
 
     def test_parts_of_each_kind(self) -> None:
         """The filter allows `/about` with any fields: texts, bytes, more than fit the first room, and none at all."""

@@ -18,13 +18,13 @@ import (
 	vupresal "vupresal.example/vupresal.git/examples/embed/go"
 )
 
-func filterOf(t *testing.T, name string) *vupresal.Filter {
+func filterOf(t *testing.T, name string, ignore ...string) *vupresal.Filter {
 	t.Helper()
 	message, err := os.ReadFile(filepath.Join(os.Getenv("VUPRESAL_EXAMPLES"), name))
 	if err != nil {
 		t.Fatal(err)
 	}
-	filter, err := vupresal.Admit(message, vupresal.Options{})
+	filter, err := vupresal.Admit(message, vupresal.Options{Ignore: ignore})
 	if err != nil {
 		t.Fatal(err)
 	}
@@ -66,6 +66,7 @@ func TestCalls(t *testing.T) {
 	ctx, cancel := context.WithCancel(context.Background())
 	defer cancel()
 	all, none := clientOf(t, filterOf(t, "any_any.bin")), clientOf(t, filterOf(t, "deny_any.bin"))
+	less := clientOf(t, filterOf(t, "any_any.bin", "X"))
 	for _, row := range []struct {
 		name   string
 		client checked.HealthClient
@@ -76,6 +77,8 @@ func TestCalls(t *testing.T) {
 		{"denied", none, nil, codes.PermissionDenied},
 		{"bytes", all, []string{"trace-bin", "\xff\x00"}, codes.OK},
 		{"a long value", all, []string{"x", strings.Repeat("v", 5000)}, codes.ResourceExhausted},
+		{"a long value that is ignored", less, []string{"x", strings.Repeat("v", 5000)}, codes.OK},
+		{"another long value", less, []string{"y", strings.Repeat("v", 5000)}, codes.ResourceExhausted},
 	} {
 		if got := asked(t, row.client, metadata.AppendToOutgoingContext(ctx, row.lines...)); got != [2]codes.Code{row.want, row.want} {
 			t.Errorf("%s: %v; want %v", row.name, got, row.want)

@@ -17,10 +17,11 @@ import functools
 import ipaddress
 import struct
 import threading
+import warnings
 from dataclasses import dataclass, fields
 from typing import Dict, Iterable, NamedTuple, Optional, Tuple, Union
 
-from . import _library
+from . import _ignored, _library
 
 __all__ = ["Bounds", "Decision", "EachThread", "Error", "Facts", "Filter", "Refused", "is_proved"]
 
@@ -176,9 +177,18 @@ _DECIDE, _DECIDE_HEAD = _LIBRARY.vupresal_filter_decide, _LIBRARY.vupresal_filte
 class Filter:
     """An admitted filter."""
 
-    def __init__(self, message: bytes, budget: int = 1_000_000, bounds: Bounds = Bounds()) -> None:
+    def __init__(self, message: bytes, budget: int = 1_000_000, bounds: Bounds = Bounds(), ignore: Iterable[str] = ()) -> None:
         """Admits the message of an HTTP RBAC filter; raises Refused if it is at fault. The budget is the most steps that its
-        conditions may take for one request, 1 to 100,000,000. A number that C cannot hold raises ValueError."""
+        conditions may take for one request, 1 to 100,000,000. A number that C cannot hold raises ValueError.
+
+        `ignore` names fields, in any case, whose lines are left out of each request before the limits apply; a name that is none, or the
+        host's, raises ValueError. A filter that reads such a field finds none: a DENY on it never matches. There is a warning, and
+        `may_read_ignored` has the name, if the message has it as a text. A name that a condition puts together, or meets in a loop over
+        all headers, is not found."""
+        self._ignored = _ignored.Ignored(ignore)
+        self.may_read_ignored: Tuple[str, ...] = self._ignored.texts_of(message)
+        for name in self.may_read_ignored:
+            warnings.warn(f"the filter may read the field {name}, which is ignored: it finds none", stacklevel=2)
         self._open()
         place = ctypes.create_string_buffer(512)
         status = _LIBRARY.vupresal_filter_admit(ctypes.byref(self._handle), message, len(message), ctypes.byref(bounds._input()),
@@ -196,6 +206,7 @@ class Filter:
     def share(self) -> Filter:
         """Another Filter of the same message, which is not admitted again. Raises Error if this one is closed."""
         other = Filter.__new__(Filter)
+        other._ignored, other.may_read_ignored = self._ignored, self.may_read_ignored
         other._open()
         with self._lock:
             status = _LIBRARY.vupresal_filter_share_distinct(ctypes.byref(self._handle), ctypes.byref(other._handle))
@@ -210,6 +221,8 @@ class Filter:
         Facts are made ready for C once: keep those of a connection for its next requests."""
         http11, number = (bool(is_http11), 0) if protocol is None else _protocol_of(protocol)
         at = facts._address
+        if self._ignored:
+            lines = self._ignored.lines_without(lines)
         with self._lock:
             status = _DECIDE(self._at, self._room.put(method, target, lines, http11, number), at, self._output_at)
             return self._decision(status)
@@ -217,6 +230,8 @@ class Filter:
     def decide_head(self, head: bytes, facts: Facts = _NO_FACTS) -> Decision:
         """The decision on a request by its whole head of HTTP/1. Raises Error without a decision."""
         at = facts._address
+        if self._ignored:
+            head = self._ignored.head_without(head)
         with self._lock:
             return self._decision(_DECIDE_HEAD(self._at, head, len(head), at, self._output_at))
 
@@ -268,8 +283,8 @@ class Filter:
 class EachThread:
     """A filter that is admitted once, and shared with each thread when it first asks."""
 
-    def __init__(self, message: bytes, budget: int = 1_000_000, bounds: Bounds = Bounds()) -> None:
-        self._first, self._own = Filter(message, budget, bounds), threading.local()
+    def __init__(self, message: bytes, budget: int = 1_000_000, bounds: Bounds = Bounds(), ignore: Iterable[str] = ()) -> None:
+        self._first, self._own = Filter(message, budget, bounds, ignore), threading.local()
 
     @property
     def filter(self) -> Filter:

@@ -14,13 +14,16 @@
 #![deny(missing_docs)]
 
 mod facts;
+mod ignored;
 mod status;
 
 pub use facts::Facts;
 pub use status::{Error, Refusal};
 
+use ignored::Ignored;
 use std::mem::size_of;
 use std::ptr;
+use std::sync::Arc;
 use vupresal_sys as sys;
 
 /// The limits of the requests that a filter is asked for. All six 0 are the greatest, which are in brackets.
@@ -42,18 +45,21 @@ pub struct Bounds {
 
 /// What a filter is admitted with.
 #[derive(Clone, Copy, Debug, PartialEq, Eq)]
-pub struct Options {
+pub struct Options<'a> {
     /// The most steps that the conditions may take for one request: 1 to 100,000,000.
     pub budget: u64,
     /// The limits of requests.
     pub bounds: Bounds,
     /// The most visits that measuring the conditions may take; 0 for 4,194,304.
     pub visits: u64,
+    /// Names of fields, in any case, whose lines are left out of each request before the limits apply. A filter that reads such a field
+    /// finds none: a DENY on it never matches. [`Filter::may_read_ignored`] says which of these a filter may read.
+    pub ignore: &'a [&'a str],
 }
 
-impl Default for Options {
+impl Default for Options<'_> {
     fn default() -> Self {
-        Self { budget: 1_000_000, bounds: Bounds::default(), visits: 0 }
+        Self { budget: 1_000_000, bounds: Bounds::default(), visits: 0, ignore: &[] }
     }
 }
 
@@ -104,6 +110,7 @@ pub struct Filter {
     handle: sys::vupresal_filter,
     // the lines of a request as C has them: the room is kept, and empty between two calls
     lines: Vec<sys::vupresal_line>,
+    ignored: Arc<Ignored>,
 }
 
 // SAFETY: the library's handles may pass from thread to thread, which it proves (`handles_cross_threads`). `lines` is empty between calls.
@@ -144,12 +151,13 @@ impl Filter {
     ///
     /// # Errors
     ///
-    /// Why the message, or a number of the options, is refused; or that the library is another one than expected.
-    pub fn admit(message: &[u8], options: &Options) -> Result<Self, Refusal> {
+    /// Why the message, a number of the options, or an ignored name is refused; or that the library is another one than expected.
+    pub fn admit(message: &[u8], options: &Options<'_>) -> Result<Self, Refusal> {
         if !is_expected() {
             return Err(Refusal::other_library());
         }
-        let mut filter = Self { handle: sys::vupresal_filter::empty(), lines: Vec::new() };
+        let ignored = Arc::new(Ignored::new(options.ignore, message)?);
+        let mut filter = Self { handle: sys::vupresal_filter::empty(), lines: Vec::new(), ignored };
         let limits = &options.bounds;
         let bounds = sys::vupresal_bounds {
             fields: limits.fields,
@@ -186,7 +194,7 @@ impl Filter {
     ///
     /// If memory ran out.
     pub fn share(&mut self) -> Result<Self, Error> {
-        let mut other = Self { handle: sys::vupresal_filter::empty(), lines: Vec::new() };
+        let mut other = Self { handle: sys::vupresal_filter::empty(), lines: Vec::new(), ignored: Arc::clone(&self.ignored) };
         // SAFETY: these are two handles.
         let status = unsafe { sys::vupresal_filter_share_distinct(&mut self.handle, &mut other.handle) };
         Error::unless_ok(status).map(|()| other)
@@ -198,9 +206,14 @@ impl Filter {
     ///
     /// Why there is no decision. The request is to be refused.
     pub fn decide<N: AsRef<[u8]>, V: AsRef<[u8]>>(&mut self, request: &Request<'_, N, V>, facts: &Facts) -> Result<Decision, Error> {
+        let ignored = &self.ignored;
         self.lines.clear();
         self.lines.extend(
-            request.lines.iter().map(|(name, value)| sys::vupresal_line { name: bytes_of(name.as_ref()), value: bytes_of(value.as_ref()) }),
+            request
+                .lines
+                .iter()
+                .filter(|(name, _)| !ignored.has(name.as_ref()))
+                .map(|(name, value)| sys::vupresal_line { name: bytes_of(name.as_ref()), value: bytes_of(value.as_ref()) }),
         );
         let input = sys::vupresal_request {
             method: bytes_of(request.method.as_bytes()),
@@ -227,11 +240,18 @@ impl Filter {
     ///
     /// As of [`Filter::decide`]; also if the head is not whole.
     pub fn decide_head(&mut self, head: &[u8], facts: &Facts) -> Result<Decision, Error> {
+        let head = &*self.ignored.head_without(head);
         let mut decision = sys::vupresal_decision::default();
         // SAFETY: as above.
         let status = facts
             .with(|facts| unsafe { sys::vupresal_filter_decide_head(&mut self.handle, head.as_ptr(), head.len(), facts, &mut decision) });
         decided(status, decision)
+    }
+
+    /// Those names of [`Options::ignore`], in lower case, that the filter's message has as a text: its policies may read these fields,
+    /// and find none. A name that a condition puts together, or meets in a loop over all headers, is not found.
+    pub fn may_read_ignored(&self) -> &[String] {
+        self.ignored.suspects()
     }
 
     /// The number of policies.

@@ -72,12 +72,17 @@ impl Refusal {
         Self::new(i32::MIN, String::from("the library is of another ABI or older than this crate"))
     }
 
+    /// The status of a name that cannot be ignored.
+    pub(crate) fn of_ignored(name: &str, fault: &str) -> Self {
+        Self::new(sys::VUPRESAL_OUT_OF_RANGE, format!("ignore: {:?} {}", name, fault))
+    }
+
     /// The library's status, as the header has it.
     pub fn status(&self) -> i32 {
         self.status
     }
 
-    /// The part of the message that has the fault; it may be empty.
+    /// The part of the message that has the fault, or the ignored name; it may be empty.
     pub fn place(&self) -> &str {
         &self.place
     }

@@ -124,6 +124,105 @@ fn smaller_bounds() {
     assert_eq!(less.decide(&Request::get(&target, &HOST), &Facts::default()), Err(Error::OutsideLimits));
 }
 
+/// A filter that denies each request with a field cookie, which its message names Cookie.
+const DENY_COOKIE: &[u8] = b"\n\x1b\x08\x01\x12\x17\n\x01p\x12\x12\n\x0c\x22\n\n\x06Cookie8\x01\x12\x02\x18\x01";
+
+fn ignoring(message: &[u8], ignore: &[&str]) -> Filter {
+    Filter::admit(message, &Options { ignore, ..Options::default() }).expect("the filter is admitted")
+}
+
+/// The status that a server would answer with, by the parts and by the head.
+fn answered(filter: &mut Filter, lines: &[(&str, &str)]) -> u16 {
+    let status = |found: Result<Decision, Error>| found.map_or_else(Error::http_status, |it| if it.allowed { 200 } else { 403 });
+    let by_parts = status(filter.decide(&Request::get("/", lines), &Facts::default()));
+    let fields: String = lines.iter().map(|(name, value)| format!("{}: {}\r\n", name, value)).collect();
+    let head = format!("\r\n\nGET / HTTP/1.1\r\n{}\r\n", fields);
+    for text in [head.clone(), head.replace("\r\n", "\n")] {
+        assert_eq!(status(filter.decide_head(text.as_bytes(), &Facts::default())), by_parts, "{:?}", lines);
+    }
+    by_parts
+}
+
+#[test]
+fn ignored_fields() {
+    let (every, long) = (example("any_any.bin"), "c".repeat(5000));
+    let long = long.as_str();
+    let mut many = vec![("x", "v"); 60];
+    many.extend([("cookie", ""), ("cookie", ""), ("host", "h")]);
+    for (message, ignore, lines, wanted) in [
+        (&every[..], &[][..], &[("Cookie", long)][..], 431),
+        (&every, &["cookie"], &[("Cookie", long)], 200),
+        (&every, &["COOkie"], &[("cooKIE", long), ("COOKIE", long)], 200),
+        (&every, &["cookie"], &[("Cookie", long), ("Cookie2", long)], 431),
+        (&every, &["cookie2"], &[("Cookie", long)], 431),
+        (&every, &["cookie"], &many[..62], 200),
+        (&every, &["cookie2"], &many[..62], 431),
+        (&every, &["transfer-encoding"], &[("Transfer-Encoding", "chunked")], 200),
+        (&every, &["x"], &[("Transfer-Encoding", "chunked")], 501),
+        (DENY_COOKIE, &[], &[("cookie", "a")], 403),
+        (DENY_COOKIE, &[], &[], 200),
+        (DENY_COOKIE, &["x", "cookie"], &[("cookie", "a")], 200),
+        (DENY_COOKIE, &["x"], &[("cookie", "a")], 403),
+    ] {
+        let mut filter = ignoring(message, ignore);
+        let with_host: Vec<_> = HOST.iter().chain(lines).copied().collect();
+        assert_eq!(answered(&mut filter, &with_host), wanted, "{:?}", ignore);
+        assert_eq!(answered(&mut filter.share().expect("memory"), &with_host), wanted, "{:?}, shared", ignore);
+    }
+}
+
+#[test]
+fn ignored_lines_of_a_head() {
+    // what is no whole line of an ignored name stays, so the head has the same fault
+    let mut filter = ignoring(&example("any_any.bin"), &["cookie"]);
+    for (head, wanted) in [
+        (&b"GET / HTTP/1.1\r\nCookie: a\r\nHost: h\r\nCOOKIE:b\r\ncookie:\r\n\r\n"[..], true),
+        (b"GET / HTTP/1.1\r\nHost: h\r\nCookie: \xff\t\r\n\r\n", true),
+        (b"GET / HTTP/1.1\r\nHost: h\r\nCookie : a\r\n\r\n", false),
+        (b"GET / HTTP/1.1\r\nHost: h\r\nCookie: a\r\n b\r\n\r\n", false),
+        (b"GET / HTTP/1.1\r\nHost: h\r\nCookie: a\0\r\n\r\n", false),
+        (b"GET / HTTP/1.1\r\nHost: h\r\nCookie: a\rb\r\n\r\n", false),
+        (b"GET / HTTP/1.1\r\nHost: h\r\nCookie: a\r\r\n\r\n", false),
+        (b"GET / HTTP/1.1\r\nHost: h\r\nCookie\r\n\r\n", false),
+        (b"GET / HTTP/1.1\r\nHost: h\r\nCookie: a", false),
+        (b"Cookie: a\r\nGET / HTTP/1.1\r\nHost: h\r\n\r\n", false),
+        (b"\r\nCookie: a\r\nGET / HTTP/1.1\r\nHost: h\r\n\r\n", false),
+        (b"", false),
+    ] {
+        let found = filter.decide_head(head, &Facts::default());
+        assert_eq!(
+            found.map(|it| it.allowed),
+            if wanted { Ok(true) } else { Err(Error::BadRequest) },
+            "{:?}",
+            String::from_utf8_lossy(head)
+        );
+    }
+}
+
+#[test]
+fn ignored_names() {
+    for (name, fault) in [
+        ("", "is not the name of a field"),
+        ("a b", "is not the name of a field"),
+        ("a:", "is not the name of a field"),
+        ("\u{e9}", "is not the name of a field"),
+        ("coo\u{212a}ie", "is not the name of a field"),
+        (":path", "is no field"),
+        (":authority", "is no field"),
+        ("host", "cannot be ignored"),
+        ("HOST", "cannot be ignored"),
+    ] {
+        let ignore = ["cookie", name];
+        let refused =
+            Filter::admit(&example("any_any.bin"), &Options { ignore: &ignore, ..Options::default() }).err().expect("it is refused");
+        assert_eq!(refused.status(), -2);
+        assert!(refused.to_string().contains(fault), "{:?}: {}", name, refused);
+    }
+    for (ignore, wanted) in [(&[][..], &[][..]), (&["x", "COOKIE"], &["cookie"]), (&["ookie", "cooki", "!#$%&'*+-.^_`|~09azAZ"], &[])] {
+        assert_eq!(ignoring(DENY_COOKIE, ignore).may_read_ignored(), wanted);
+    }
+}
+
 #[test]
 fn threads_share_a_filter() {
     let mut first = filter_of("condition.bin");
