@@ -37,7 +37,6 @@ type Facts struct {
 // each, in the order of decide.h.
 type worker struct {
 	handle   C.vupresal_filter
-	ignored  []string
 	texts    []byte
 	lengths  []C.size_t
 	lines    int
@@ -54,14 +53,14 @@ func (w *worker) text(text string) {
 }
 
 // pack writes the request without its ignored lines, and the facts, in place of those before.
-func (w *worker) pack(request *Request, facts *Facts) {
+func (w *worker) pack(request *Request, facts *Facts, ignored []string) {
 	w.texts, w.lengths = w.texts[:0], w.lengths[:0]
 	w.text(request.Method)
 	w.text(request.Target)
 	w.packFacts(facts)
 	w.lines = 0
 	for i := range request.Lines {
-		if isAmong(w.ignored, request.Lines[i].Name) {
+		if isAmong(ignored, request.Lines[i].Name) {
 			continue
 		}
 		w.lines++
@@ -132,7 +131,7 @@ func port(at netip.AddrPort) C.int32_t {
 }
 
 // decide asks the filter by one call of C.
-func (w *worker) decide(request *Request, facts *Facts) C.int32_t {
-	w.pack(request, facts)
+func (w *worker) decide(request *Request, facts *Facts, ignored []string) C.int32_t {
+	w.pack(request, facts, ignored)
 	return C.vupresal_go_decide(&w.handle, (*C.uint8_t)(&w.texts[0]), &w.lengths[0], C.size_t(w.lines), &w.numbers, &w.decision)
 }

@@ -106,8 +106,8 @@ type Filter struct {
 	once    sync.Once
 	// the policies' names, in ascending order
 	names []string
-	// the ignored names that its message has as a text
-	suspects []string
+	// the ignored names in lower case, and those of them that the message has as a text; C may not see them beside a handle
+	ignored, suspects []string
 }
 
 // Admit admits the message of an HTTP RBAC filter. The error is a *Refusal if the message is at fault. There is another error if an ignored
@@ -126,10 +126,9 @@ func Admit(message []byte, options Options) (*Filter, error) {
 	if err != nil {
 		return nil, err
 	}
-	filter := &Filter{workers: make(chan *worker, options.Workers), closed: make(chan struct{}), suspects: textsAmong(message, ignored)}
+	filter := &Filter{workers: make(chan *worker, options.Workers), closed: make(chan struct{}), ignored: ignored, suspects: textsAmong(message, ignored)}
 	workers := make([]worker, options.Workers)
 	for i := range workers {
-		workers[i].ignored = ignored
 		filter.workers <- &workers[i]
 	}
 	first := &workers[0].handle
@@ -189,7 +188,7 @@ func admit(handle *C.vupresal_filter, message []byte, options *Options) error {
 }
 
 func (f *Filter) decide(worker *worker, request *Request, facts *Facts) (Decision, error) {
-	if status := worker.decide(request, facts); status != C.VUPRESAL_OK {
+	if status := worker.decide(request, facts, f.ignored); status != C.VUPRESAL_OK {
 		return Decision{}, Status(status)
 	}
 	decision := &worker.decision
