@@ -145,7 +145,8 @@ ngx_http_vupresal_warn_ignored(ngx_conf_t *cf, const ngx_array_t *ignored, const
 
     for (i = 0; i < ignored->nelts; i++) {
         if (ngx_http_vupresal_has_name(message, &name[i])) {
-            ngx_conf_log_error(NGX_LOG_WARN, cf, 0, "\"%V\" may read the field \"%V\", which vupresal_ignore leaves out: it finds none", file, &name[i]);
+            ngx_conf_log_error(NGX_LOG_WARN, cf, 0, "\"%V\" may read the field \"%V\", which vupresal_ignore leaves out: it finds none", file,
+                               &name[i]);
         }
     }
 }

@@ -33,6 +33,11 @@ def _checked(name: str) -> bytes:
     return name.lower().encode()
 
 
+def _has_text(low: bytes, text: bytes) -> bool:
+    """Whether a message in lower case has this text, with its length before it."""
+    return len(text) < 128 and (bytes([len(text)]) + text).lower() in low
+
+
 class Ignored:
     """The names of fields that are left out."""
 
@@ -40,7 +45,7 @@ class Ignored:
         if isinstance(names, (str, bytes)):
             raise TypeError("ignore: several names are a list, not one text")
         self._names = dict.fromkeys(_checked(name) for name in names)
-        # a whole line of a head; only \\n ends what `^` begins
+        # a whole line of a head; of bytes, `^` is after a line feed alone
         self._line = re.compile(rb"^(?:%s):[\t -~\x80-\xff]*\r?\n" % b"|".join(map(re.escape, self._names)), re.MULTILINE | re.IGNORECASE)
 
     def __bool__(self) -> bool:
@@ -62,5 +67,4 @@ class Ignored:
         if not self._names:
             return ()
         low = message.lower()
-        has_text = {text: 0 < len(text) < 128 and (bytes([len(text)]) + text).lower() in low for name in self._names for text in (name, _ATTRIBUTES.get(name, b""))}
-        return tuple(name.decode() for name in self._names if has_text[name] or has_text[_ATTRIBUTES.get(name, b"")])
+        return tuple(name.decode() for name in self._names if _has_text(low, name) or _has_text(low, _ATTRIBUTES.get(name, name)))
