@@ -109,7 +109,7 @@ impl Metrics {
 
     /// A connection is served from now on.
     pub fn opened(&mut self)
-        ensures open { self.new.open ≡ raised self.old.open 1 }
+        ensures opens { self.new.open ≡ raised self.old.open 1 }
         ensures full { self.new.full ≡ full_after self.old.limit self.new.open self.old.full }
     {
         self.open = self.open.saturating_add(1);
