@@ -1,5 +1,5 @@
 -- What a response leaves open, with one filter or one resource more.
-use Rattle.std.proofs.Common.{◌≡◌, ◌∙◌, ◌++◌, ◌||◌, ◌<◌, ◌+◌, ℕ, suc, Bool, true, false, List, [], ◌∷◌, Option, None, Some, String, Global, ap, append-nil, arith, bytes_eq, cond, filter, get_or, is_some, length, map, not, option_map, refl, slice_get, string_bytes, sym, take}
+use Rattle.std.proofs.Common.{◌≡◌, ◌∙◌, ◌++◌, ◌||◌, ◌<◌, ◌+◌, ℕ, Bool, true, false, List, [], ◌∷◌, Option, None, Some, String, Global, ap, append-nil, arith, bytes_eq, cond, filter, get_or, is_some, length, map, not, option_map, refl, slice_get, string_bytes, sym, take}
 use Rattle.std.specs.Map.{lookup}
 use Rattle.std.proofs.lemmas.List.{length-map, length-take-le, map-append, map_more}
 use Rattle.std.proofs.lemmas.List.Elements.{filter-append}
@@ -10,6 +10,8 @@ use Rattle.ads.specs.Views.{admitted_view, entries_view}
 use Rattle.rbac_policy.specs.declared.filter.Admitted.{Admitted}
 use Rattle.xds_wire.proofs.Each.{zip_push}
 use Rattle.xds_wire.specs.Discovery.{AnyMessage, ExtensionMessage}
+use Rattle.xds_wire.specs.View.{any_view}
+use Rattle.xds_wire.specs.declared.any.Any.{Any}
 use Rattle.serve_observe.specs.Gaps.{AreUnaskedIn, IsExtensionOf, is_asked, lacks_policies, names_without, unasked_of}
 
 -- further elements after a list that may begin with one more
@@ -19,7 +21,7 @@ if_both true x xs ys more is = ap (λ l. x ∷ l) is
 if_both false x xs ys more is = is
 
 -- no filter is left
-none_left : (names : List (List ℕ)) → names_without names [] ≡ []
+pub none_left : (names : List (List ℕ)) → names_without names [] ≡ []
 none_left [] = refl
 none_left (n ∷ names) = refl
 
@@ -53,7 +55,7 @@ one_beyond (n ∷ names) (q ∷ policies) p beyond =
 
 module _ (names : List (List ℕ)) (policies : List (Option Admitted)) (i : ℕ) (d : Option Admitted)
     (within : i < length policies) where
-  view : Option Admitted → Option AdmittedValue
+  abbrev view : Option Admitted → Option AdmittedValue
   view = option_map admitted_view
 
   -- the policies so far, with those of one filter more
@@ -120,3 +122,18 @@ module _ (asked : List (List ℕ)) (resources : List AnyMessage) (names : List (
     reads = zip_push IsExtensionOf resources so_far.extensions any e so_far.reads reads;
     names_are = rw (last_name asked so_far.extensions e, is, append-nil, ← so_far.names_are) refl;
   }
+
+module _ (asked : List (List ℕ)) (all : List Any) (i : ℕ) (d : Any) (within : i < length all) (names : List (List ℕ))
+    (e : ExtensionMessage) (reads : IsExtensionOf (any_view (get_or all i d)) e)
+    (so_far : AreUnaskedIn asked (map any_view (take i all)) names) where
+  -- so the names so far have one more
+  pub unasked_next : is_asked asked e.name ≡ false → AreUnaskedIn asked (map any_view (take (i + 1) all)) (names ++ e.name ∷ [])
+  unasked_next is =
+      rw (map_more any_view all i d within)
+      (one_unasked asked (map any_view (take i all)) names (any_view (get_or all i d)) e reads so_far is)
+
+  -- or none
+  pub asked_next : is_asked asked e.name ≡ true → AreUnaskedIn asked (map any_view (take (i + 1) all)) names
+  asked_next is =
+      rw (map_more any_view all i d within)
+      (one_asked asked (map any_view (take i all)) names (any_view (get_or all i d)) e reads so_far is)

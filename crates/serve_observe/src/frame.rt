@@ -66,8 +66,9 @@ impl NextMessage {
         if !self.has_all {
             return;
         }
+        let frame = self.frame();
         let mut rest = NextMessage::new(self.alloc);
-        rest.add(self.bytes.get(self.frame()..).unwrap_or(&[]));
+        rest.add(self.bytes.get(frame..).unwrap_or(&[]));
         *self = rest;
     }
 

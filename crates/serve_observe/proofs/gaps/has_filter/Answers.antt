@@ -1,4 +1,4 @@
-use Rattle.std.proofs.Common.{◌≡◌, ◌∙◌}
+use Rattle.std.proofs.Common.{◌∙◌}
 use Rattle.serve_observe.proofs.GapLemmas.{asked_by}
 use Rattle.serve_observe.proofs.gaps.has_filter.Goals as goal
 
