@@ -39,7 +39,7 @@ pub struct HostNetwork<'r> {
     // files that are kept open as long as the sockets are
     kept: Vec<File>,
     // the time of the last wait, and when the control plane was heard last, in milliseconds
-    now: u64,
+    waited: u64,
     heard: u64,
     history: History,
 }
@@ -66,7 +66,7 @@ impl<'r> HostNetwork<'r> {
             is_told: false,
             begin,
             kept: Vec::new(alloc),
-            now: begin,
+            waited: begin,
             heard: begin,
             history: History::new(conn),
         })
@@ -99,9 +99,9 @@ impl<'r> HostNetwork<'r> {
     /// How many milliseconds ago the control plane was heard last: a byte of its stream came, or its file was read. If it
     /// never was, that counts from the opening of the sockets on.
     pub(crate) fn silence(&self) -> u64
-        ensures { result ≡ self.now.now - self.now.heard }
+        ensures { result ≡ self.now.waited - self.now.heard }
     {
-        self.now.saturating_sub(self.heard)
+        self.waited.saturating_sub(self.heard)
     }
 
     /// What the last look at the control plane's file found, if that is to be reported and was not taken yet.
@@ -115,27 +115,27 @@ impl<'r> HostNetwork<'r> {
     // heard.
     fn look(&mut self, most: u64, ready: &mut Vec<Ready>) -> io::Result<u64>
         ensures history { self.new.history ≡ self.old.history }
-        ensures now { IfOk result (λ now. self.new.now ≡ now) }
+        ensures waited { IfOk result (λ now. self.new.waited ≡ now) }
     {
         self.found.clear();
         let is_due = !self.admin_ready.due.is_empty() || (self.drains && !self.is_told);
         let most = if is_due { 0 } else { most };
         let now = self.sockets.wait(most, &mut self.found)?;
         self.sort(ready)?;
-        self.now = self.begin.saturating_add(now);
+        self.waited = self.begin.saturating_add(now);
         if self.sockets.reads_file() {
-            self.heard = self.now;
+            self.heard = self.waited;
         }
-        Ok(self.now)
+        Ok(self.waited)
     }
 
     // A read of a stream gave bytes, or failed. That of the stream of updates may say that the control plane was heard.
     fn hear(&mut self, stream: Stream, read: &io::Result<usize>)
         ensures history { self.new.history ≡ self.old.history }
-        ensures heard { HeardAfter stream read.now self.old.now self.old.heard self.new.heard }
+        ensures heard { HeardAfter stream read.now self.old.waited self.old.heard self.new.heard }
     {
         if stream == Stream::Updates && says_heard(read) {
-            self.heard = self.now;
+            self.heard = self.waited;
         }
     }
 
