@@ -2,6 +2,7 @@
 ghost use Rattle.std.specs.Prelude.{◌≡◌};
 ghost use Rattle.serve_observe.specs.Losses.{end_by, loss};
 
+use crate::gaps::Gaps;
 use crate::responses::{
     JudgedResponse, RefusalCause, accepted_update, incomplete_update, with_likeness,
 };
@@ -139,8 +140,7 @@ pub(crate) fn log_judgement<F: LogFiles + Drop>(
         ResponseOutcome::Accepted(_) => {
             log_update(alloc, file, judged.time, &accepted_update(judged));
             if let Some(gaps) = judged.gaps(alloc) {
-                let update = incomplete_update(judged, &gaps);
-                log_update(alloc, file, judged.time, &update);
+                log_gaps(alloc, file, judged, &gaps);
             }
         }
         ResponseOutcome::Refused(refused) => {
@@ -149,6 +149,17 @@ pub(crate) fn log_judgement<F: LogFiles + Drop>(
             }
         }
     }
+}
+
+// Logs what a response leaves open that was accepted.
+fn log_gaps<F: LogFiles + Drop>(
+    alloc: Global,
+    file: &mut LogFile<F>,
+    judged: &JudgedResponse<'_>,
+    gaps: &Gaps<'_>,
+) {
+    let update = incomplete_update(judged, gaps);
+    log_update(alloc, file, judged.time, &update);
 }
 
 // Logs that a response was refused for this cause.
