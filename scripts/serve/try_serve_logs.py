@@ -185,7 +185,7 @@ def decisions(case):
     stream.give(b"2", NO_POLICY, names=[ALLOW])
     server.answers("to the new one", [(PLAIN, denied(b"-,-", 2))])
     case.until("one line", lambda: len(server.logged("log")) == 1)
-    case.same("none is lost", [len(server.logged(it)) for it in ("old", "log", "updates")], [6, 1, 1])
+    case.same("none is lost", [len(server.logged(it)) for it in ("old", "log", "updates")], [6, 1, 2])
     server, _, _ = case.ready(METHOD_IS_GET, access_log={"path": "sampled", "sample": 10})
     server.answers("many", [(PLAIN * 100 + POST * 7, allowed(b"0", 1) * 100 + denied(b"-", 1) * 7)])
     case.until("17 lines", lambda: len(server.logged("sampled")) >= 17)

@@ -1,9 +1,18 @@
-"""Places at their limit: descriptors, and connections to the admin port."""
+"""Places at their limit: those of connections, of several processes, of descriptors, and of the admin port."""
 import contextlib
+import http.client
+import re
 import socket
+import subprocess
 import time
 
-from loopback import heard
+from loopback import free_port, heard
+from replays import ANY_ANY, PLAIN, allowed, resource, response
+from try_serve_starts import LEAST
+
+YES = allowed(b"0", 1)
+RESPONSE = response(b"1", b"n1", resource(b"f", ANY_ANY))[5:]
+CLOSED = 'rbacd_connections_closed_total{reason="idle_full"}'
 
 
 def heard_now(peer):
@@ -13,12 +22,86 @@ def heard_now(peer):
     return b""
 
 
+def idle_full(case):
+    """Once the last place is taken, the connection that is idle for the longest time is closed, and busy ones stay."""
+    server, _, _ = case.ready(connections=4)
+    busy = server.connect()
+    busy.sendall(PLAIN[:10])
+    kept = []
+    for _ in range(2):
+        time.sleep(0.05 * case.scale)
+        kept.append(server.answers("within the limit", [(PLAIN, YES)]))
+    server.answers("the first is used again", [(PLAIN, YES)], kept[0])
+    last = server.answers("the last place", [(PLAIN, YES)])
+    case.same("the longest idle one is closed", heard_now(kept[1]), b"")
+    for peer in (kept[0], last):
+        server.answers("the others are served on", [(PLAIN, YES)], peer)
+    server.answers("a request that has begun", [(PLAIN[10:], YES)], busy)
+    found = server.metrics()
+    names = (CLOSED, "rbacd_connections_open", "rbacd_connections_limit", "rbacd_connections_full_total")
+    case.same("the counters", [found[it] for it in names], [1, 3, 4, 1])
+    for _ in range(20):
+        server.answers("many more", [(PLAIN, YES)])
+    case.same("one was closed for each", [server.metrics()[it] for it in names], [21, 3, 4, 21])
+    case.until("standard error says so", lambda: "the limit of 4 connections is reached" in server.errors.read_text())
+    time.sleep(1.5)
+    case.same("once a minute", server.errors.read_text().count("the limit of 4 connections"), 1)
+    spent = server.processor_time(1)
+    case.holds("it does not spin", spent < 0.25, spent)
+
+
+def metric(admin, name):
+    """A metric of a server, by its admin port; None if it does not answer."""
+    with contextlib.suppress(OSError, http.client.HTTPException):
+        it = http.client.HTTPConnection("127.0.0.1", admin, timeout=30)
+        with contextlib.closing(it):
+            it.request("GET", "/metrics")
+            return int(re.search(rf"(?m)^{name} (\d+)$", it.getresponse().read().decode())[1])
+    return None
+
+
+def shared(case):
+    """Three processes at one socket share 64 kept connections."""
+    (case.folder / "policies").write_bytes(RESPONSE)
+    listener = socket.create_server(("127.0.0.1", 0), backlog=128)
+    case.ends.callback(listener.close)
+    admins = [free_port() for _ in range(3)]
+    for number, admin in enumerate(admins):
+        case.config(f"{number}.json", {**LEAST, "listen": "fd:3", "control": "file:policies", "update_log": f"log-{number}",
+                                       "admin": admin})
+        command = f"exec {case.program} serve --config {number}.json 3<&{listener.fileno()}"
+        it = subprocess.Popen(["bash", "-c", command], cwd=case.folder, pass_fds=[listener.fileno()], stdin=subprocess.DEVNULL)
+        case.ends.callback(lambda it=it: (it.kill(), it.wait()))
+    for admin in admins:
+        case.until("each is ready", lambda admin=admin: metric(admin, "rbacd_ready") == 1)
+    for what, pause in (("at once", 0), ("in turn", 0.005 * case.scale)):
+        peers = [socket.create_connection(listener.getsockname(), 10 * case.scale) for _ in range(64)]
+        for peer in peers:
+            case.ends.callback(peer.close)
+            peer.sendall(PLAIN)
+            time.sleep(pause)
+        for peer in peers:
+            case.same("an answer", heard(peer, len(YES)), YES)
+        counts = [metric(admin, "rbacd_connections_open") for admin in admins]
+        case.same(f"{what}: all are open", sum(counts), 64)
+        case.holds(f"{what}: each has some, and none most of them", min(counts) > 0 and max(counts) <= 48, counts)
+        for peer in peers:
+            peer.close()
+        case.until("all are closed", lambda: sum(metric(admin, "rbacd_connections_open") for admin in admins) == 0)
+
+
 def few_descriptors(case):
-    """A limit of open files below the connections and 64 more: standard error says what fits."""
+    """A limit of open files below the connections and 64 more: standard error says what fits, and so many are served."""
     server, _, _ = case.ready(limit="--nofile=84:84")
     words = "the limit of open files is 84: it leaves room for 20 of 1024 connections"
     case.until("standard error says so", lambda: words in server.errors.read_text())
-    case.same("the metric", server.metrics()["rbacd_connections_limit"], 1024)
+    case.same("the metric", server.metrics()["rbacd_connections_limit"], 20)
+    peers = [server.answers("within", [(PLAIN, YES)]) for _ in range(60)]
+    found = server.metrics()
+    names = ("rbacd_connections_open", "rbacd_connections_open_greatest", "rbacd_connections_refused_total")
+    case.same("none was refused", [found[it] for it in names], [19, 20, 0])
+    case.same("the admin port is well", server.fetch("/healthz")[0], 200)
+    server.answers("the last is served on", [(PLAIN, YES)], peers[-1])
     said = server.errors.read_text()
     server, _, _ = case.ready(limit="--nofile=84:84", connections=20)
     case.same("nothing is said where all fit", server.errors.read_text(), said)
@@ -46,4 +129,4 @@ def admin_reserve(case):
         case.same("/healthz again", server.fetch("/healthz")[0], 200)
 
 
-CASES = {it.__name__: it for it in (few_descriptors, admin_reserve)}
+CASES = {it.__name__: it for it in (idle_full, shared, few_descriptors, admin_reserve)}

@@ -3,6 +3,7 @@ import contextlib
 import os
 import signal
 import socket
+import subprocess
 import threading
 import time
 
@@ -165,10 +166,13 @@ def flood(peer, done):
 
 
 def capacity(case):
-    """At its capacity the next connection waits, without processor time, and is served once one is closed."""
+    """While all places are taken by requests the next connection waits, without processor time. It is served once one is free."""
     server, _, _ = case.ready(connections=2)
     yes = allowed(b"0", 1)
-    first, second = (server.answers("within", [(PLAIN, yes)]) for _ in range(2))
+    first, second = server.connect(), server.connect()
+    for peer in (first, second):
+        peer.sendall(PLAIN[:10])
+    time.sleep(0.3 * case.scale)
     waiting = [server.connect() for _ in range(3)]
     for peer in waiting:
         peer.sendall(PLAIN)
@@ -177,58 +181,39 @@ def capacity(case):
     for peer in waiting:
         case.holds("they wait", timed_out(peer))
         peer.settimeout(10 * case.scale)
-    server.answers("those within are served on", [(PLAIN, yes)], second)
-    for old, new in zip((first, second, *waiting), waiting):
-        old.close()
-        case.same("once one is closed", heard(new, len(yes)), yes)
-    case.same("two are open", server.metrics()["rbacd_connections_open"], 2)
+    server.answers("those within are served on", [(PLAIN[10:] + PLAIN[:10], yes)], second)
+    first.close()
+    for peer in waiting:
+        case.same("once one is closed", heard(peer, len(yes)), yes)
+    server.answers("the other is served on", [(PLAIN[10:], yes)], second)
     case.same("the greatest", server.metrics()["rbacd_connections_open_greatest"], 2)
 
 
 def descriptors(case):
-    """With few descriptors the connections that are open are served. The others wait until some are closed."""
-    server, plane, stream = case.ready(limit="--nofile=24:24")
+    """Descriptors that something else takes: those that are open are served, and the others wait until some are given back."""
+    server, plane, stream = case.ready(limit="--nofile=84:84")
     yes = allowed(b"0", 1)
+    subprocess.run(["prlimit", f"--pid={server.process.pid}", "--nofile=24:84"], check=True)
     peers = [server.connect() for _ in range(40)]
     for peer in peers:
-        peer.sendall(PLAIN)
+        peer.sendall(PLAIN[:10])
     time.sleep(0.5 * case.scale)
-    served = [peer for peer in peers if not timed_out_after(peer, 0.01)]
-    case.holds("some are served", 5 <= len(served) < 24, len(served))
-    waiting = [peer for peer in peers if peer not in served]
     spent = server.processor_time(1)
     case.holds("it does not spin", spent < 0.25, spent)
     case.until("it is told", lambda: "cannot accept connections" in server.errors.read_text())
-    for peer in served:
-        case.same("an answer", heard(peer, len(yes)), yes)
     admin = socket.create_connection(("127.0.0.1", server.admin), 10 * case.scale)
     case.ends.callback(admin.close)
     admin.sendall(b"GET /healthz HTTP/1.1\r\nHost: localhost\r\n\r\n")
     time.sleep(0.3 * case.scale)
     stream.close()
-    while served:
-        for peer in served:
-            peer.close()
-        time.sleep(0.3 * case.scale)
-        served = [peer for peer in waiting if not timed_out_after(peer, 0.01)]
-        waiting = [peer for peer in waiting if peer not in served]
-        for peer in served:
-            case.same("an answer later", heard(peer, len(yes)), yes)
-    case.same("none is stranded", len(waiting), 0)
+    for peer in peers:
+        peer.sendall(PLAIN[10:])
+    for peer in peers:
+        case.same("an answer", heard(peer, len(yes)), yes)
+        peer.close()
     case.same("the update stream comes up again", plane.accept().frame(), request(F, b"1", node=True))
     case.same("the admin port's as well", heard(admin, 15), b"HTTP/1.1 200 OK")
     case.holds("it is counted", server.metrics()["rbacd_connections_refused_total"] > 0)
-
-
-def timed_out_after(peer, seconds):
-    """Whether nothing comes within so many seconds; what comes is left."""
-    peer.settimeout(seconds)
-    try:
-        return not peer.recv(1, socket.MSG_PEEK)
-    except TimeoutError:
-        return True
-    finally:
-        peer.settimeout(10)
 
 
 CASES = {it.__name__: it for it in (answers, bodies, ends, many, turns, capacity, descriptors)}

@@ -30,6 +30,7 @@ BAD = [
     ({"timeouts": {"first_response": "1"}}, "timeouts.first_response"), ({"timeouts": {"drain": 0}}, "timeouts.drain"),
     ({"backoff": {"first": 0}}, "backoff.first"), ({"backoff": {"first": 2, "greatest": 1}}, "backoff.first"),
     ({"backoff": {"greatest": 3_600_001}}, "backoff.greatest"), ({"nack_pause": -1}, "nack_pause"),
+    ({"silence": 86_401}, "silence"), ({"stale_after": -1}, "stale_after"), ({"silence": 0.5}, "silence"),
     ({"access_log": {}}, "access_log.path"), ({"access_log": "log"}, "access_log"),
     ({"access_log": {"path": "a", "sample": 0}}, "access_log.sample"), ({"access_log": {"path": ""}}, "access_log.path"),
     ({"update_log": ""}, "update_log"), ({"record": {"bytes": 65_536}}, "record.path"),
@@ -54,8 +55,8 @@ BAD = [
     ({"map": {"host": "x-a"}, "require": ["x-a"]}, "require[0]"), ({"paths": "Strict"}, "paths"), ({"paths": True}, "paths"),
     ({"path": "strict"}, "path")]
 
-NAMES = "proxy, facts, listen, control, grpc, admin, connections, pending, timeouts, backoff, nack_pause, access_log, update_log, " \
-        "record, until_eof, map, require, paths"
+NAMES = "proxy, facts, listen, control, grpc, admin, connections, pending, timeouts, backoff, nack_pause, silence, stale_after, " \
+        "access_log, update_log, record, until_eof, map, require, paths"
 NO_HOSTS = "; names of hosts are not taken"
 # settings with several mistakes, and all lines below `bad config`: the first mistake of each member, in the order of the members
 SEVERAL = [
@@ -94,8 +95,8 @@ def check(case):
               "control 127.0.0.1:18000", "connections 1024", "until_eof false"]
     lines = out.decode().splitlines()
     case.same("what they mean", [line for line in wanted if line not in lines], [])
-    names = {"listen", "control", "admin", "connections", "pending", "timeouts", "backoff", "nack_pause", "access_log",
-             "update_log", "record", "until_eof"}
+    names = {"listen", "control", "admin", "connections", "pending", "timeouts", "backoff", "nack_pause", "silence",
+             "stale_after", "access_log", "update_log", "record", "until_eof"}
     case.same("each member has a line", names - {line.split()[0] for line in lines}, set())
     more = {"listen": ["127.0.0.1:1", "unix:s", "fd:3"], "control": "file:p", "admin": 18081, "connections": 7, "pending": 8,
             "timeouts": {"head": 11}, "backoff": {"first": 12, "greatest": 13}, "nack_pause": 0, "facts": {"connection.mtls": True},

@@ -152,7 +152,7 @@ def pauses(case):
     case.same("a good one behind them", stream.frame(), request(F, b"3", b"n3"))
     server.answers("it counts", [(PLAIN, NO)])
     told = [it for it in server.logged() if "update" in it]
-    case.same("what is logged", [it["update"] for it in told], ["acknowledged", *["refused"] * 3, "acknowledged"])
+    case.same("what is logged", [it["update"] for it in told], ["acknowledged", *["refused"] * 3, "acknowledged", "incomplete"])
     wanted = {"version": "2", "nonce": "n2", "refused": 5, "name": "OutOfRange", "cause": "a value is outside its range",
               "filter": "f", "place": 'policy "p": permissions[0].any', "generation": 1}
     case.same("a refusal", {key: told[1].get(key) for key in wanted}, wanted)

@@ -193,6 +193,8 @@ FILE is one JSON object. Its members proxy, listen and control are required:
   timeouts    milliseconds: head, idle, write, drain, first_response
   backoff     milliseconds before the control plane is tried again: first, greatest
   nack_pause  milliseconds for which the update stream is not read after a refusal
+  silence     seconds without a byte after which the update stream ends; 0 for never
+  stale_after seconds without a control plane after which /ready is 503; 0 for never
   access_log  where requests are logged: path, and sample, one in so many that pass
   update_log  the path of the log of updates
   record      where events are recorded: path, bytes of a file, and how many older files

@@ -20,7 +20,7 @@ pub use admitting::admit_file;
 pub use error_place::place_of_error;
 pub use explain::{Explanation, OwnTrial, unavailable_text};
 pub use json::Why;
-pub use notes::{GuessedFormat, Notes};
+pub use notes::Notes;
 pub use outcome::Outcome;
 pub use policy_file::PolicyFile;
 pub use report::Report;

@@ -1,5 +1,5 @@
 -- When a server is ready.
-use Rattle.std.specs.Prelude.{Bool, false, if◌then◌else◌, is_some}
+use Rattle.std.specs.Prelude.{Bool, ◌&&◌, nat_le, nat_lt, not, is_some}
 use Rattle.std.specs.List.{list_all}
 use Rattle.serve_admin.specs.declared.status.FilterStatus.{FilterStatus}
 use Rattle.serve_admin.specs.declared.status.Status.{Status}
@@ -8,6 +8,10 @@ use Rattle.serve_admin.specs.declared.status.Status.{Status}
 abbrev pub has_policies : FilterStatus → Bool
 has_policies filter = is_some filter.policies
 
--- each filter has policies, and the server does not drain
+-- a time is set after which the server is not ready, and for so long the control plane was not heard
+abbrev pub is_stale : Status → Bool
+is_stale status = nat_lt 0 status.stale_after && nat_le status.stale_after status.control_silence
+
+-- each filter has policies, the server does not drain, and its control plane was heard in time
 abbrev pub readiness : Status → Bool
-readiness status = if status.drains then false else list_all has_policies status.filters.items
+readiness status = not status.drains && (not (is_stale status) && list_all has_policies status.filters.items)

@@ -127,6 +127,9 @@ impl Admin {
         if self.status.drains {
             words.push_str("the server drains\n")?;
         }
+        if self.status.is_stale() {
+            words.push_str("the control plane is silent\n")?;
+        }
         for filter in &self.status.filters {
             if filter.policies.is_none() {
                 words.push_str("no policies yet: ")?;

@@ -56,6 +56,7 @@ pub(crate) fn exposition(
     add_filters(&mut text, metrics, status)?;
     add_connections(&mut text, metrics)?;
     add_updates(&mut text, metrics)?;
+    add_silence(&mut text, status)?;
     add_server(&mut text, metrics, status)?;
     Ok(text.into_bytes())
 }
@@ -125,8 +126,7 @@ fn add_connections(text: &mut MetricsText, metrics: &Metrics) -> Result<(), Allo
         help,
         metrics.most_open,
     )?;
-    let help = "The greatest number of connections that may be open at once.";
-    text.single("rbacd_connections_limit", Kind::Gauge, help, metrics.limit)?;
+    add_limit(text, metrics)?;
     let help = "Connections that were accepted.";
     text.single(
         "rbacd_connections_accepted_total",
@@ -148,6 +148,18 @@ fn add_connections(text: &mut MetricsText, metrics: &Metrics) -> Result<(), Allo
         text.sample(name, &[("reason", *word)], *count)?;
     }
     Ok(())
+}
+
+fn add_limit(text: &mut MetricsText, metrics: &Metrics) -> Result<(), AllocError> {
+    let help = "The greatest number of connections that may be open at once.";
+    text.single("rbacd_connections_limit", Kind::Gauge, help, metrics.limit)?;
+    let help = "How often the last place for a connection was taken.";
+    text.single(
+        "rbacd_connections_full_total",
+        Kind::Counter,
+        help,
+        metrics.full,
+    )
 }
 
 fn add_updates(text: &mut MetricsText, metrics: &Metrics) -> Result<(), AllocError> {
@@ -186,6 +198,13 @@ fn add_updates(text: &mut MetricsText, metrics: &Metrics) -> Result<(), AllocErr
     text.millionths(name, &[], metrics.admissions.greatest())
 }
 
+fn add_silence(text: &mut MetricsText, status: &Status) -> Result<(), AllocError> {
+    let name = "rbacd_control_silence_seconds";
+    let help = "Seconds since the control plane was heard.";
+    text.family(name, Kind::Gauge, help)?;
+    text.millionths(name, &[], status.control_silence.saturating_mul(1_000))
+}
+
 fn add_server(
     text: &mut MetricsText,
     metrics: &Metrics,
@@ -214,7 +233,8 @@ fn add_server(
         help,
         status.started / 1_000,
     )?;
-    let help = "1 while each filter has policies and the server does not drain, else 0.";
+    let help =
+        "1 while the server is ready: policies, a control plane that is heard, no draining. Else 0.";
     text.single(
         "rbacd_ready",
         Kind::Gauge,

@@ -1,5 +1,6 @@
 //! The counters of a server.
 ghost use Rattle.std.specs.Prelude.{◌≡◌};
+ghost use Rattle.serve_admin.specs.Counting.{full_after, raised, takes_last};
 
 use crate::counter::count_in;
 use crate::faults::StatusCounts;
@@ -23,6 +24,8 @@ pub struct Metrics {
     pub(crate) most_open: u64,
     /// How many may be open; 0 if that is not known.
     pub(crate) limit: u64,
+    /// How often the last place was taken.
+    pub(crate) full: u64,
     pub(crate) closed: [u64; REASONS.len()],
     pub(crate) responses_accepted: u64,
     pub(crate) responses_refused: u64,
@@ -51,6 +54,7 @@ impl Metrics {
             open: 0,
             most_open: 0,
             limit: 0,
+            full: 0,
             closed: [0; REASONS.len()],
             responses_accepted: 0,
             responses_refused: 0,
@@ -104,9 +108,15 @@ impl Metrics {
     }
 
     /// A connection is served from now on.
-    pub fn opened(&mut self) {
+    pub fn opened(&mut self)
+        ensures opens { self.new.open ≡ raised self.old.open 1 }
+        ensures full { self.new.full ≡ full_after self.old.limit self.new.open self.old.full }
+    {
         self.open = self.open.saturating_add(1);
         self.most_open = self.most_open.max(self.open);
+        if takes_last(self.open, self.limit) {
+            self.full = self.full.saturating_add(1);
+        }
     }
 
     /// So many connections may be open at once.
@@ -114,6 +124,20 @@ impl Metrics {
         ensures { self.new ≡ record self.old { limit = connections } }
     {
         self.limit = connections;
+    }
+
+    /// How many connections may be open at once; 0 if that is not known.
+    pub fn limit(&self) -> u64
+        ensures { result ≡ self.now.limit }
+    {
+        self.limit
+    }
+
+    /// How often the last place was taken.
+    pub fn full(&self) -> u64
+        ensures { result ≡ self.now.full }
+    {
+        self.full
     }
 
     /// A connection is no longer served.
@@ -158,4 +182,11 @@ impl Metrics {
     pub fn tick(&mut self, now: u64) {
         self.recent.tick(now);
     }
+}
+
+// Whether the last of so many open connections took the last place. A limit of 0 is not known.
+fn takes_last(count: u64, limit: u64) -> bool
+    ensures { result ≡ takes_last count limit }
+{
+    limit > 0 && limit <= count
 }

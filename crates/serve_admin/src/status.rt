@@ -1,7 +1,7 @@
 //! What a server reports of itself. Names, versions and causes are any text.
 ghost use Rattle.std.specs.Prelude.{◌≡◌};
 ghost use Rattle.std.specs.List.{list_all};
-ghost use Rattle.serve_admin.specs.Readiness.{has_policies, readiness};
+ghost use Rattle.serve_admin.specs.Readiness.{has_policies, is_stale, readiness};
 
 use serde::Serialize;
 use std::alloc::{AllocError, Global};
@@ -25,6 +25,10 @@ pub struct Status {
     pub drains: bool,
     /// How much memory it takes, in bytes.
     pub resident_memory: u64,
+    /// For how many milliseconds the control plane was not heard.
+    pub control_silence: u64,
+    /// After how many of them the server is not ready; 0 for never.
+    pub stale_after: u64,
 }
 
 /// A filter, in the order of evaluation.
@@ -91,14 +95,24 @@ impl Status {
             refusal: None,
             drains: false,
             resident_memory: 0,
+            control_silence: 0,
+            stale_after: 0,
         })
     }
 
-    /// Whether requests are judged by policies, and new connections are accepted.
+    /// Whether requests are judged by policies, and new connections are accepted. A server whose control plane was not
+    /// heard for too long is not ready.
     pub fn is_ready(&self) -> bool
         ensures { result ≡ readiness self.now }
     {
-        !self.drains && all_have_policies(&self.filters)
+        !self.drains && !self.is_stale() && all_have_policies(&self.filters)
+    }
+
+    /// Whether the control plane was not heard for too long.
+    pub fn is_stale(&self) -> bool
+        ensures { result ≡ is_stale self.now }
+    {
+        self.stale_after > 0 && self.stale_after <= self.control_silence
     }
 }
 

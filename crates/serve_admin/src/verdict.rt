@@ -51,11 +51,21 @@ pub enum Closed {
     Drained,
     /// What is known of it is outside the limits.
     Unfit,
+    /// It was idle for the longest time, and all places were taken.
+    IdleFull,
 }
 
 /// The words for the reasons, by their places.
-pub(crate) const REASONS: [&str; 8] = [
-    "served", "reset", "head", "idle", "blocked", "memory", "drained", "unfit",
+pub(crate) const REASONS: [&str; 9] = [
+    "served",
+    "reset",
+    "head",
+    "idle",
+    "blocked",
+    "memory",
+    "drained",
+    "unfit",
+    "idle_full",
 ];
 
 impl Closed {
@@ -70,6 +80,7 @@ impl Closed {
             Closed::Memory => 5,
             Closed::Drained => 6,
             Closed::Unfit => 7,
+            Closed::IdleFull => 8,
         }
     }
 }

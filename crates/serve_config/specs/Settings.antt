@@ -16,8 +16,8 @@ use Rattle.serve_config.specs.declared.config.Timeouts.{Timeouts}
 abbrev pub setting_names : List (List ℕ)
 setting_names =
     codes "proxy" ∷ codes "facts" ∷ codes "listen" ∷ codes "control" ∷ codes "grpc" ∷ codes "admin" ∷ codes "connections" ∷ codes "pending"
-    ∷ codes "timeouts" ∷ codes "backoff" ∷ codes "nack_pause" ∷ codes "access_log" ∷ codes "update_log" ∷ codes "record"
-    ∷ codes "until_eof" ∷ codes "map" ∷ codes "require" ∷ codes "paths" ∷ []
+    ∷ codes "timeouts" ∷ codes "backoff" ∷ codes "nack_pause" ∷ codes "silence" ∷ codes "stale_after" ∷ codes "access_log" ∷ codes "update_log"
+    ∷ codes "record" ∷ codes "until_eof" ∷ codes "map" ∷ codes "require" ∷ codes "paths" ∷ []
 
 -- the names that times may have
 abbrev pub timeout_names : List (List ℕ)
@@ -82,6 +82,8 @@ pub record AreSettings (d : Option Data) (c : ServeConfig) : Type 0 where
   pub timeouts : AreTimeouts (member_of (codes "timeouts") d) c.timeouts
   pub waits : AreWaits (member_of (codes "backoff") d) c.first_backoff c.greatest_backoff
   pub nack_pause : IsNumberFrom 0 3600000 1000 (member_of (codes "nack_pause") d) c.nack_pause
+  pub silence : IsNumberFrom 0 86400 0 (member_of (codes "silence") d) c.silence
+  pub stale_after : IsNumberFrom 0 86400 0 (member_of (codes "stale_after") d) c.stale_after
   pub access_log : IsOrNull IsAccessLog (member_of (codes "access_log") d) c.access_log
   pub update_log : IsOrNull IsPathText (member_of (codes "update_log") d) c.update_log
   pub events : IsOrNull IsEventRecord (member_of (codes "record") d) c.record

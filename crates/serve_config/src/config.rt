@@ -5,8 +5,8 @@ use crate::grpc::GrpcCall;
 use head_map::Mapping;
 use std::net::SocketAddr;
 
-/// The settings of a server, except for the configuration of its proxy and the facts of all connections. All times are
-/// in milliseconds.
+/// The settings of a server, except for the configuration of its proxy and the facts of all connections. Times are in
+/// milliseconds, except for `silence` and `stale_after`.
 #[derive(Debug, Drop)]
 pub struct ServeConfig {
     /// Where it listens; at least one address.
@@ -29,6 +29,10 @@ pub struct ServeConfig {
     pub greatest_backoff: u64,
     /// How long the update stream is not read after a response was refused.
     pub nack_pause: u64,
+    /// After how many seconds without a byte an update stream ends; 0 for never. It does not hold for a file.
+    pub silence: u64,
+    /// After how many seconds in which no control plane was heard the server is not ready; 0 for never.
+    pub stale_after: u64,
     /// Where decisions are logged, if they are.
     pub access_log: Option<AccessLog>,
     /// The path of the log of updates; standard error if there is none.

@@ -68,7 +68,9 @@ fn write_times(text: &mut String, config: &ServeConfig) -> Result<(), AllocError
         text,
         "backoff first {first} greatest {greatest} milliseconds"
     )?;
-    writeln!(text, "nack_pause {} milliseconds", config.nack_pause)
+    writeln!(text, "nack_pause {} milliseconds", config.nack_pause)?;
+    writeln!(text, "silence {} seconds", config.silence)?;
+    writeln!(text, "stale_after {} seconds", config.stale_after)
 }
 
 // The lines of the logs and the record.

@@ -14,7 +14,7 @@ use serde_json::Value;
 use std::alloc::Global;
 
 // The members that a configuration may have.
-const NAMES: [&str; 18] = [
+const NAMES: [&str; 20] = [
     "proxy",
     "facts",
     "listen",
@@ -26,6 +26,8 @@ const NAMES: [&str; 18] = [
     "timeouts",
     "backoff",
     "nack_pause",
+    "silence",
+    "stale_after",
     "access_log",
     "update_log",
     "record",
@@ -60,6 +62,8 @@ pub fn read_serve_config(alloc: Global, value: &Value) -> Result<ServeConfig, Se
     let timeouts = timeouts_at(whole)?;
     let (first_backoff, greatest_backoff) = backoff_at(whole)?;
     let nack_pause = whole.number("nack_pause", &(0..=3_600_000), 1_000)?;
+    let silence = whole.number("silence", &(0..=86_400), 0)?;
+    let stale_after = whole.number("stale_after", &(0..=86_400), 0)?;
     let access_log = access_log_at(whole)?;
     let update_log = whole.path_or_null("update_log")?;
     let record = record_at(whole)?;
@@ -77,6 +81,8 @@ pub fn read_serve_config(alloc: Global, value: &Value) -> Result<ServeConfig, Se
         first_backoff,
         greatest_backoff,
         nack_pause,
+        silence,
+        stale_after,
         access_log,
         update_log,
         record,

@@ -1,5 +1,4 @@
 mod KnownLemmas
-mod LeastTimes
 mod PieceLemmas
 mod Requests
 mod ServingLemmas

@@ -1,10 +1,10 @@
 //! The connections of the admin port.
 ghost use Rattle.std.specs.Prelude.{◌≡◌, [], true, false, None, IfOk};
-ghost use Rattle.serve_host.specs.Earliest.{IsEarliest};
+ghost use Rattle.serve_loop.specs.Earliest.{IsEarliest};
 
 use crate::admin_stream::{AdminStream, Next};
-use crate::times::earliest;
 use serve_admin::{Admin, AdminConnection};
+use serve_loop::earliest;
 use serve_net::{Places, Sockets};
 use std::alloc::{AllocError, Global};
 use std::fs::Files;

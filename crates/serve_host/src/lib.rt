@@ -15,7 +15,6 @@ mod process;
 mod request_reader;
 mod serving;
 mod streams;
-mod times;
 mod upkeep;
 
 pub use fault::HostFault;

@@ -1,7 +1,8 @@
 //! The sockets of the system as the network of a server.
-ghost use Rattle.std.specs.Prelude.{◌≡◌, [], IfOk};
+ghost use Rattle.std.specs.Prelude.{◌≡◌, ◌-◌, ◌↔◌, [], IfOk, IsTrue};
 ghost use Rattle.attributes.specs.Conn.{conn_view};
 ghost use Rattle.serve_core.specs.Turns.{ServerFacts};
+ghost use Rattle.serve_host.specs.Hearing.{HeardAfter, SaysHeard};
 ghost use Rattle.serve_host.specs.Known.{AreKnownFacts};
 ghost use Rattle.serve_loop.specs.Law.{wire_of};
 
@@ -17,7 +18,7 @@ use serve_observe::micros;
 use serve_trace::Note;
 use std::alloc::{AllocError, Global};
 use std::fs::File;
-use std::io;
+use std::io::{self, ErrorKind};
 
 /// The sockets of the system, the streams that are open, and what is known of every connection. Its history has what its
 /// methods gave and took.
@@ -37,6 +38,9 @@ pub struct HostNetwork<'r> {
     begin: u64,
     // files that are kept open as long as the sockets are
     kept: Vec<File>,
+    // the time of the last wait, and when the control plane was heard last, in milliseconds
+    waited: u64,
+    heard: u64,
     history: History,
 }
 
@@ -51,6 +55,7 @@ impl<'r> HostNetwork<'r> {
     ) -> Result<HostNetwork<'r>, AllocError>
         ensures { IfOk result (λ network. (network.history.trace.turns ≡ []) × (network.history.conn ≡ conn)) }
     {
+        let begin = micros(rt) / 1_000;
         Ok(HostNetwork {
             alloc,
             sockets,
@@ -59,8 +64,10 @@ impl<'r> HostNetwork<'r> {
             admin_ready: AdminReady::new(alloc),
             drains: false,
             is_told: false,
-            begin: micros(rt) / 1_000,
+            begin,
             kept: Vec::new(alloc),
+            waited: begin,
+            heard: begin,
             history: History::new(conn),
         })
     }
@@ -89,6 +96,14 @@ impl<'r> HostNetwork<'r> {
         self.sockets.take_end_words()
     }
 
+    /// How many milliseconds ago the control plane was heard last: a byte of its stream came, or its file was read. If it
+    /// never was, that counts from the opening of the sockets on.
+    pub(crate) fn silence(&self) -> u64
+        ensures { result ≡ self.now.waited - self.now.heard }
+    {
+        self.waited.saturating_sub(self.heard)
+    }
+
     /// What the last look at the control plane's file found, if that is to be reported and was not taken yet.
     pub(crate) fn take_look(&mut self) -> Option<Look>
         ensures { self.new.history ≡ self.old.history }
@@ -96,16 +111,32 @@ impl<'r> HostNetwork<'r> {
         self.sockets.take_look()
     }
 
-    // Waits, and sorts what is ready: the loop's, and the admin port's. Returns the time.
+    // Waits, and sorts what is ready: the loop's, and the admin port's. Returns the time. A file that can be read counts as
+    // heard.
     fn look(&mut self, most: u64, ready: &mut Vec<Ready>) -> io::Result<u64>
-        ensures { self.new.history ≡ self.old.history }
+        ensures history { self.new.history ≡ self.old.history }
+        ensures waited { IfOk result (λ now. self.new.waited ≡ now) }
     {
         self.found.clear();
         let is_due = !self.admin_ready.due.is_empty() || (self.drains && !self.is_told);
         let most = if is_due { 0 } else { most };
         let now = self.sockets.wait(most, &mut self.found)?;
         self.sort(ready)?;
-        Ok(self.begin.saturating_add(now))
+        self.waited = self.begin.saturating_add(now);
+        if self.sockets.reads_file() {
+            self.heard = self.waited;
+        }
+        Ok(self.waited)
+    }
+
+    // A read of a stream gave bytes, or failed. That of the stream of updates may say that the control plane was heard.
+    fn hear(&mut self, stream: Stream, read: &io::Result<usize>)
+        ensures history { self.new.history ≡ self.old.history }
+        ensures heard { HeardAfter stream read.now self.old.waited self.old.heard self.new.heard }
+    {
+        if stream == Stream::Updates && says_heard(read) {
+            self.heard = self.waited;
+        }
     }
 
     fn sort(&mut self, ready: &mut Vec<Ready>) -> Result<(), AllocError>
@@ -175,7 +206,9 @@ impl Network<Conn> for HostNetwork<'_> {
     }
 
     fn read(&mut self, stream: Stream, room: &mut [u8]) -> io::Result<usize> {
-        match self.streams.read(stream, room) {
+        let read = self.streams.read(stream, room);
+        self.hear(stream, &read);
+        match read {
             Ok(count) => {
                 if count == 0 {
                     return Ok(0);
@@ -206,5 +239,15 @@ impl Network<Conn> for HostNetwork<'_> {
         self.streams.close(stream);
         self.history
             .note(&Note::Took(&Event::Closed(stream, CloseReason::Served)));
+    }
+}
+
+// Whether a read says that bytes came: it gave some, or a call by gRPC kept them for itself.
+fn says_heard(read: &io::Result<usize>) -> bool
+    ensures { IsTrue result ↔ SaysHeard read.now }
+{
+    match read {
+        Ok(count) => *count > 0,
+        Err(error) => error.kind() == ErrorKind::Interrupted,
     }
 }

@@ -33,7 +33,6 @@ pub fn open_network<'r>(
     ensures facts { IfOk result (λ network. network.history.conn ≡ conn) }
 {
     let taken = taken_streams(alloc, rt)?;
-    report_limit(rt, settings);
     let sockets = Sockets::open(alloc, rt, settings)?;
     let mut network = HostNetwork::new(alloc, rt, sockets, conn, settings.connections)?;
     network.keep(taken);
@@ -56,22 +55,25 @@ pub fn serve_on<'r>(
     ensures setup { IfOk result (λ ended. ended.network.history.conn ≡ network.entry.history.conn) }
     ensures told { IfOk result (λ ended. ended.fault ≡ None → is_told (wire_of ended.network.history.trace.turns) ≡ true) }
 {
-    let observers = observers_of(alloc, rt, config, settings)?;
+    let at_once = most_at_once(rt, settings);
+    let observers = observers_of(alloc, rt, config, settings, at_once)?;
     let upkeep = upkeep_of(alloc, rt, settings)?;
     let surroundings = Surroundings {
         network,
         observers,
         upkeep,
+        at_once,
     };
     Ok(serve_by(alloc, config, settings, surroundings)?)
 }
 
-// Says so on standard error if the system's limit of open files leaves room for fewer connections than are set.
-fn report_limit(rt: &HostRuntime, settings: &ServeConfig) {
-    let Some(limit) = open_files(rt) else {
-        return;
-    };
+// How many connections are open at once at most: as many as are set. They are fewer if the system's limit of open files has
+// room for no more, and then standard error says so.
+fn most_at_once(rt: &HostRuntime, settings: &ServeConfig) -> usize {
     let set = settings.connections;
+    let Some(limit) = open_files(rt) else {
+        return set;
+    };
     let fit = fitting(set, limit);
     if fit < set {
         let mut errors = errors_of(rt);
@@ -80,23 +82,26 @@ fn report_limit(rt: &HostRuntime, settings: &ServeConfig) {
             "the limit of open files is {limit}: it leaves room for {fit} of {set} connections"
         );
     }
+    fit
 }
 
 type HostObservers<'r> = Observers<'r, HostRuntime, &'r HostRuntime>;
 
-// Those who see what happens: the status, the metrics and the logs.
+// Those who see what happens, with so many connections at once at most: the status, the metrics and the logs.
 fn observers_of<'r>(
     alloc: Global,
     rt: &'r HostRuntime,
     config: &Config,
     settings: &ServeConfig,
+    at_once: usize,
 ) -> Result<HostObservers<'r>, HostFault>
     ensures { IfOk result (λ observers. observers.trace.turns ≡ []) }
 {
     let node = String::from_str(alloc, config.node())?;
     let filters = filters_of(alloc, config)?;
     let mut admin = Admin::new(alloc, node, unix_millis(rt), filters)?;
-    admin.metrics.set_limit(settings.connections as u64);
+    admin.metrics.set_limit(at_once as u64);
+    admin.status.stale_after = settings.stale_after.saturating_mul(1_000);
     let logs = logs_of(alloc, rt, config, settings)?;
     Ok(Observers::new(alloc, rt, settings.connections, admin, logs)?)
 }

@@ -23,6 +23,8 @@ pub(crate) struct Surroundings<N, O, U> {
     pub(crate) network: N,
     pub(crate) observers: O,
     pub(crate) upkeep: U,
+    /// How many connections are open at once at most.
+    pub(crate) at_once: usize,
 }
 
 /// A server that ended, with its network.
@@ -67,11 +69,12 @@ pub(crate) fn serve_by<
         network,
         observers,
         upkeep,
+        at_once,
     } = surroundings;
     let places = settings.connections;
     let service = service_of(alloc, config, settings)?;
     let board = Board::new(alloc, places, network, service, observers)?;
-    let server = Server::new(alloc, places, board, &loop_settings(settings))?;
+    let server = Server::new(alloc, places, board, &loop_settings(settings, at_once))?;
     let (server, served) = run(server, upkeep);
     Ok(ended_of(server.into_network(), served))
 }

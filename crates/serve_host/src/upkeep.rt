@@ -1,12 +1,13 @@
 //! What is done between the turns of the loop: the admin port is served, logs are written, and the status is brought up
 //! to date.
-ghost use Rattle.std.specs.Prelude.{◌≡◌, None, Some, false};
+ghost use Rattle.std.specs.Prelude.{◌≡◌, ◌&&◌, None, Some, false, if◌then◌else◌, nat_lt};
 ghost use Rattle.serve_host.specs.Looks.{after_look};
+ghost use Rattle.serve_observe.specs.Control.{is_due};
 
 use crate::admin_port::AdminPort;
 use crate::network::HostNetwork;
 use attributes::Conn;
-use serve_admin::{Admin, AdminAction};
+use serve_admin::{Admin, AdminAction, Metrics};
 use serve_core::Served;
 use serve_log::{LogFiles, LogWriter};
 use serve_loop::Upkeep;
@@ -43,6 +44,9 @@ pub(crate) struct HostUpkeep<'r, R: Files> {
     reported: Option<u64>,
     // how many dropped lines were counted
     dropped: u64,
+    // how often the last place was taken at the last look, and when that was last reported; none if it was not
+    full: u64,
+    full_reported: Option<u64>,
 }
 
 impl<'r, R: Files> HostUpkeep<'r, R> {
@@ -65,6 +69,8 @@ impl<'r, R: Files> HostUpkeep<'r, R> {
             looked: 0,
             reported: None,
             dropped: 0,
+            full: 0,
+            full_reported: None,
         }
     }
 
@@ -106,6 +112,25 @@ impl<'r, R: Files> HostUpkeep<'r, R> {
             if let Some(fault_report) = logs.fault_report(now) {
                 let _ = writeln!(self.errors, "{fault_report}");
             }
+        }
+    }
+
+    // Reports that the limit of connections is reached, if it was since the last look: at most once a minute.
+    fn look_at_limit(&mut self, metrics: &Metrics, now: u64)
+        ensures full { self.new.full ≡ metrics.now.full }
+        ensures reported { self.new.full_reported ≡ (if nat_lt self.old.full metrics.now.full && is_due self.old.full_reported now
+            then Some now else self.old.full_reported) }
+    {
+        let full = metrics.full();
+        let is_reached = full > self.full;
+        self.full = full;
+        if is_reached && is_due(self.full_reported, now) {
+            self.full_reported = Some(now);
+            let limit = metrics.limit();
+            let _ = writeln!(
+                self.errors,
+                "the limit of {limit} connections is reached: the one that is idle for the longest time is closed"
+            );
         }
     }
 
@@ -156,6 +181,7 @@ impl<'m, 'r, R: Net + Files + Clock + Input, F: LogFiles + Drop> Upkeep<
         if let Some(look) = network.take_look() {
             report_look(observer, &look, now);
         }
+        observer.admin.status.control_silence = network.silence();
         observer.admin.status.drains = network.drains;
         observer.admin.metrics.tick(now);
         observer.logs.flush(now);
@@ -164,6 +190,7 @@ impl<'m, 'r, R: Net + Files + Clock + Input, F: LogFiles + Drop> Upkeep<
         }
         self.looked = now;
         self.look(&mut observer.admin, &mut observer.logs, now);
+        self.look_at_limit(&observer.admin.metrics, now);
         if is_due(self.reported, now) {
             if let Some(cause) = observer.refused() {
                 self.complain(&cause, now);

@@ -31,6 +31,6 @@ pub use frames::{empty_response, frame};
 pub use log_file::LogFile;
 pub use recorder::{RecordPosition, RecordSettings, Recorder};
 pub use time::time_text;
-pub use update::{Acknowledged, Refused, Update, update_line};
+pub use update::{Acknowledged, Incomplete, Refused, Update, update_line};
 pub use updates::UpdateBytes;
 pub use waiting::{LostLine, MOST_WAITING, Waiting, Written};

@@ -1,2 +1,4 @@
 pub mod Histories
 pub mod Sending
+pub mod LeastTimes
+mod IdleTimes

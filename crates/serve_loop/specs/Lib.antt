@@ -3,3 +3,5 @@ pub mod Events
 pub mod Waiting
 pub mod Attempts
 pub mod Law
+pub mod Earliest
+pub mod Idle

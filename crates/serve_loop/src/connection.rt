@@ -1,4 +1,6 @@
 //! One connection: how far it has come, and its times.
+ghost use Rattle.std.specs.Prelude.{◌≡◌};
+ghost use Rattle.serve_loop.specs.Idle.{idle_since};
 ghost use Rattle.serve_loop.specs.Law.{GoesOn};
 
 use crate::attempt::Attempt;
@@ -183,6 +185,17 @@ impl Connection {
             Phase::Open if is_quiet && has_passed(self.flow.used, settings.idle, now) => Some(
                 CloseReason::Idle,
             ),
+            _ => None,
+        }
+    }
+
+    /// Since when the connection is idle: each request was answered, nothing waits for it, and no turn is due. None if it
+    /// is not.
+    pub(crate) fn idle_since(&self) -> Option<u64>
+        ensures { result ≡ idle_since self.now }
+    {
+        match (self.phase, self.begun, self.flow.blocked) {
+            (Phase::Open, None, None) if !self.is_due => Some(self.flow.used),
             _ => None,
         }
     }

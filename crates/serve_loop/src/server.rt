@@ -6,20 +6,21 @@ ghost use Rattle.serve_loop.specs.Law.{Belong, GoesOn};
 use crate::attempt::Attempt;
 use crate::board::Board;
 use crate::connection::{Connection, Next};
+use crate::idle::longest_idle;
 use crate::network::{Network, Ready};
 use crate::observer::Observer;
 use crate::service::Service;
-use crate::settings::{Settings, has_passed};
+use crate::settings::{Settings, has_passed, most_accepts};
 use crate::stream::{CloseReason, Stream};
 use crate::updates::Updates;
 use crate::upkeep::Upkeep;
 use std::alloc::{AllocError, Global};
 use std::io::{self, ErrorKind};
 
-// How many connections are accepted in one turn.
-const ACCEPTS: u8 = 64;
 // How long a wait takes at most, in milliseconds. After it times are looked at.
 const TICK: u64 = 100;
+// How long a wait takes at most while further connections may wait that other processes may accept.
+const SHARED: u64 = 1;
 
 /// The connections of a server, and its stream of updates.
 #[derive(Drop)]
@@ -41,7 +42,7 @@ pub struct Server<F, N: Network<F>, S: Service<F>, O: Observer<F, S>> {
 }
 
 impl<F: Drop, N: Network<F>, S: Service<F>, O: Observer<F, S>> Server<F, N, S, O> {
-    /// A server of a board with so many places.
+    /// A server of a board with so many places, of which it uses as many as it is set to.
     pub fn new(
         alloc: Global,
         places: usize,
@@ -52,7 +53,7 @@ impl<F: Drop, N: Network<F>, S: Service<F>, O: Observer<F, S>> Server<F, N, S, O
     {
         let mut connections = Vec::new(alloc);
         let mut free = Vec::new(alloc);
-        for k in 0..places {
+        for k in 0..places.min(settings.at_once) {
             connections.push(Connection::new(0))?;
             free.push(k)?;
         }
@@ -148,7 +149,11 @@ impl<F: Drop, N: Network<F>, S: Service<F>, O: Observer<F, S>> Server<F, N, S, O
         if self.is_due() {
             return 0;
         }
-        TICK
+        match self.may_accept() {
+            true if self.settings.shares => SHARED,
+            true => 0,
+            false => TICK,
+        }
     }
 
     // A turn of the stream of updates, if it is due.
@@ -164,11 +169,14 @@ impl<F: Drop, N: Network<F>, S: Service<F>, O: Observer<F, S>> Server<F, N, S, O
         self.updates.turn(&mut self.board, &self.settings);
     }
 
-    // Whether a turn is due without a further event.
+    // Whether a turn of a stream is due without a further event.
     fn is_due(&self) -> bool {
-        !self.due.is_empty()
-            || (self.ending_since.is_none()
-                && (self.updates.is_due || (self.accepts && !self.free.is_empty())))
+        !self.due.is_empty() || (self.ending_since.is_none() && self.updates.is_due)
+    }
+
+    // Whether a connection may wait for which there is a place.
+    fn may_accept(&self) -> bool {
+        self.accepts && self.ending_since.is_none() && !self.free.is_empty()
     }
 
     // Marks what is ready.
@@ -206,7 +214,7 @@ impl<F: Drop, N: Network<F>, S: Service<F>, O: Observer<F, S>> Server<F, N, S, O
     fn accept_all(&mut self) -> Result<(), AllocError>
         ensures goes_on { GoesOn N.setup S.turns S.setup self.old.board.parties self.new.board.parties }
     {
-        for _ in 0..ACCEPTS {
+        for _ in 0..most_accepts(self.settings.shares) {
             if !self.accepts || self.ending_since.is_some() {
                 return Ok(());
             }
@@ -214,8 +222,22 @@ impl<F: Drop, N: Network<F>, S: Service<F>, O: Observer<F, S>> Server<F, N, S, O
                 return Ok(());
             };
             self.accept(k)?;
+            self.make_room()?;
         }
         Ok(())
+    }
+
+    // Closes the connection that is idle for the longest time, if all places are taken.
+    fn make_room(&mut self) -> Result<(), AllocError>
+        ensures goes_on { GoesOn N.setup S.turns S.setup self.old.board.parties self.new.board.parties }
+    {
+        if !self.free.is_empty() {
+            return Ok(());
+        }
+        match longest_idle(&self.connections) {
+            Some(k) => self.close(k, CloseReason::Full),
+            None => Ok(()),
+        }
     }
 
     // Accepts a connection in a place, if one waits.
@@ -320,7 +342,7 @@ impl<F: Drop, N: Network<F>, S: Service<F>, O: Observer<F, S>> Server<F, N, S, O
                 None => {}
             }
         }
-        Ok(())
+        self.make_room()
     }
 
     // Whether the server goes on: it is not to end, or connections are open and have time.

@@ -1,5 +1,5 @@
 //! What a server is set to.
-ghost use Rattle.std.specs.Prelude.{◌≡◌, ◌≤◌, ◌+◌, ◌*◌, ◌↔◌, IsSomeAnd, IsTrue, min};
+ghost use Rattle.std.specs.Prelude.{◌≡◌, ◌≤◌, ◌<◌, ◌+◌, ◌*◌, ◌↔◌, IsSomeAnd, IsTrue, if◌then◌else◌, min};
 
 /// How a server is set. All times are in milliseconds.
 #[derive(Clone, Copy, Debug)]
@@ -22,6 +22,29 @@ pub struct Settings {
     pub refusal_pause: u64,
     /// How long the first message of the stream of updates takes at most.
     pub first_message: u64,
+    /// After how long without a byte the stream of updates ends; 0 for never.
+    pub silence: u64,
+    /// Whether other processes may accept the same connections.
+    pub shares: bool,
+    /// How many connections are open at once at most. If all are, the one that is idle for the longest time is closed.
+    pub at_once: usize,
+}
+
+// How many connections are accepted in one turn.
+const ACCEPTS: u8 = 64;
+
+/// How many connections are accepted in one turn: one, if other processes may accept them too.
+pub(crate) fn most_accepts(shares: bool) -> u8
+    ensures { result ≡ (if shares then 1 else 64) }
+{
+    if shares { 1 } else { ACCEPTS }
+}
+
+/// Whether a stream that was last heard at a time is silent for too long.
+pub(crate) fn is_silent(heard: u64, silence: u64, now: u64) -> bool
+    ensures { IsTrue result ↔ ((0 < silence) × (heard + silence ≤ now)) }
+{
+    silence > 0 && has_passed(heard, silence, now)
 }
 
 /// Whether so much time has passed.

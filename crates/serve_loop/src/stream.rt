@@ -30,6 +30,10 @@ pub enum CloseReason {
     Drained,
     /// Its bytes are of another protocol.
     Foreign,
+    /// It was idle for the longest time, and all places were taken.
+    Full,
+    /// The stream of updates gave no byte for too long.
+    Silent,
 }
 
 /// What happens to a server.

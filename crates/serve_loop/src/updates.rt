@@ -8,7 +8,7 @@ use crate::flow::{CHUNK, Flow, Sent};
 use crate::network::Network;
 use crate::observer::Observer;
 use crate::service::{Outcome, Service};
-use crate::settings::{Settings, has_passed, longer, passed_since};
+use crate::settings::{Settings, has_passed, is_silent, longer, passed_since};
 use crate::stream::{CloseReason, Stream};
 
 // How many pieces are read in one turn.
@@ -20,6 +20,8 @@ pub(crate) struct Updates {
     flow: Flow,
     // when it was connected
     since: u64,
+    // when bytes last came, or until when none are read
+    heard: u64,
     // whether a message came since
     responded: bool,
     // until when it is neither read nor connected
@@ -36,6 +38,7 @@ impl Updates {
         Updates {
             flow: Flow::new(0),
             since: 0,
+            heard: 0,
             responded: false,
             rests_until: 0,
             wait: settings.first_backoff,
@@ -93,7 +96,11 @@ impl Updates {
             Attempt::Taken(outcome) if is_open => self.taken(outcome, board.now(), settings),
             Attempt::Taken(_) => self.opened(board.now()),
             Attempt::Blocked => Next::Waits,
-            Attempt::Interrupted => Next::Again,
+            Attempt::Interrupted => {
+                // bytes may have come that the stream kept for itself
+                self.heard = board.now();
+                Next::Again
+            }
             Attempt::Ended => Next::Over(CloseReason::Left),
             Attempt::Memory => Next::Over(CloseReason::Memory),
             Attempt::Lost => Next::Over(CloseReason::Reset),
@@ -104,12 +111,14 @@ impl Updates {
     fn opened(&mut self, now: u64) -> Next {
         self.flow = Flow::new(now);
         self.since = now;
+        self.heard = now;
         self.responded = false;
         Next::Again
     }
 
     // The service took bytes of the stream.
     fn taken(&mut self, outcome: Outcome, now: u64, settings: &Settings) -> Next {
+        self.heard = now;
         if outcome.is_foreign {
             return Next::Over(CloseReason::Foreign);
         }
@@ -119,6 +128,7 @@ impl Updates {
         }
         if outcome.refuses {
             self.rests_until = now.saturating_add(settings.refusal_pause);
+            self.heard = self.rests_until;
         }
         if outcome.closes {
             return Next::Over(CloseReason::Served);
@@ -165,6 +175,8 @@ impl Updates {
             self.lose(board, CloseReason::Blocked, settings);
         } else if !self.responded && has_passed(self.since, settings.first_message, now) {
             self.lose(board, CloseReason::Slow, settings);
+        } else if is_silent(self.heard, settings.silence, now) {
+            self.lose(board, CloseReason::Silent, settings);
         }
     }
 }

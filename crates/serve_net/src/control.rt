@@ -73,6 +73,14 @@ impl ControlPlane {
         }
     }
 
+    /// Whether it is a file that was read and can still be read.
+    pub(crate) fn reads_file(&self) -> bool {
+        match self {
+            ControlPlane::File(file) => file.is_read(),
+            ControlPlane::Tcp(_) | ControlPlane::Unix(_) | ControlPlane::Grpc(_) => false,
+        }
+    }
+
     /// Why its last call by gRPC ended, if that was not taken yet.
     pub(crate) fn take_end_words(&self) -> Option<String> {
         match self {

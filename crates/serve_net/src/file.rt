@@ -1,6 +1,6 @@
 //! A control plane that is a file.
 
-ghost use Rattle.std.specs.Prelude.{◌≡◌, ◌++◌, take, drop, min, length};
+ghost use Rattle.std.specs.Prelude.{◌≡◌, ◌++◌, ◌&&◌, take, drop, is_some, min, length, not};
 
 use crate::frame::{frame_of, message_in};
 use std::alloc::{AllocError, Global};
@@ -88,6 +88,13 @@ impl WatchedFile {
             fails: false,
             report: None,
         }
+    }
+
+    /// Whether it was read, and the last look did not fail.
+    pub(crate) fn is_read(&self) -> bool
+        ensures { result ≡ (is_some self.now.stamp && not self.now.fails) }
+    {
+        self.stamp.is_some() && !self.fails
     }
 
     /// What the last look found, if that is to be reported and was not taken yet.

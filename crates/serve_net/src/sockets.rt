@@ -178,6 +178,11 @@ impl<'r, R: Net + Files + Clock + Input> Sockets<'r, R> {
         self.control.take_end_words()
     }
 
+    /// Whether the control plane is a file that was read and can still be read.
+    pub fn reads_file(&self) -> bool {
+        self.control.reads_file()
+    }
+
     /// What the last look at the control plane's file found, if that is to be reported and was not taken yet.
     pub fn take_look(&mut self) -> Option<Look> {
         self.control.take_look()

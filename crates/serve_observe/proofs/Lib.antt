@@ -2,3 +2,4 @@ pub mod Names
 pub mod Places
 pub mod Numbers
 mod MinutesApart
+mod GapLemmas

@@ -8,4 +8,5 @@ pub mod Entries
 pub mod Recording
 pub mod Decisions
 pub mod Responses
+pub mod Gaps
 pub mod Control

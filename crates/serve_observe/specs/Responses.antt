@@ -3,6 +3,7 @@ use Rattle.std.specs.Prelude.{◌≡◌, ◌/◌, option_copied, option_map, str
 use Rattle.ads.specs.Ends.{client_view}
 use Rattle.serve_log.specs.declared.update.Update.{Update}
 use Rattle.serve_log.specs.declared.update.Update.TheVariants as updates
+use Rattle.serve_observe.specs.declared.gaps.Gaps.{Gaps}
 use Rattle.serve_observe.specs.declared.responses.JudgedResponse.{JudgedResponse}
 use Rattle.serve_observe.specs.declared.responses.RefusalCause.{RefusalCause}
 
@@ -26,3 +27,13 @@ SaysRefused judged cause (updates.Refused said) =
     × (said.filter ≡ cause.fault.filter)
     × (option_copied said.place ≡ option_map string_bytes cause.fault.part.place)
 SaysRefused judged cause said = ⊥
+
+-- the line of what an accepted response leaves open: its version, its nonce, the client's generation and the names
+abbrev pub SaysIncomplete : JudgedResponse → Gaps → Update → Type 0
+SaysIncomplete judged gaps (updates.Incomplete said) =
+    (said.version.now ≡ string_bytes judged.judgement.now.version)
+    × (said.nonce.now ≡ string_bytes judged.judgement.now.nonce)
+    × (said.generation ≡ (client_view judged.client.now).accepted.generation)
+    × (said.without_policies.now ≡ gaps.without_policies.items)
+    × (said.unasked.now ≡ gaps.unasked.items)
+SaysIncomplete judged gaps said = ⊥

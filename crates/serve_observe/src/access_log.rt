@@ -226,8 +226,8 @@ fn names_of<'a>(client: &'a Client, matches: &[Option<usize>]) -> (Option<&'a st
     (filter, policy)
 }
 
-// The name of the filter in this place.
-fn filter_name(config: &Config, place: usize) -> Option<&str>
+/// The name of the filter in this place.
+pub(crate) fn filter_name(config: &Config, place: usize) -> Option<&str>
     ensures { option_map (λ name. name.now) result ≡ slice_get (names_of config.now.filters) place }
 {
     match config.filters().get_index(place) {

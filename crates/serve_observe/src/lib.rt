@@ -5,6 +5,8 @@ mod access_log;
 mod clocks;
 mod connections;
 mod control;
+mod frame;
+mod gaps;
 pub mod laws;
 mod logs;
 mod metrics;

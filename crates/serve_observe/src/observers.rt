@@ -9,14 +9,16 @@ use crate::access_log::DecisionContext;
 use crate::clocks::{micros, unix_millis};
 use crate::connections::Connections;
 use crate::control::ControlState;
+use crate::frame::NextMessage;
 use crate::logs::Logs;
 use crate::metrics::{closed_of, count_decision, count_judgement, count_unjudged};
 use crate::record::{Entry, client_entries, entry_of, record};
 use crate::responses::JudgedResponse;
 use crate::sample::Sample;
-use crate::status::{note_judgement, note_loss, note_up};
+use crate::status::{note_down, note_judgement, note_up};
 use crate::update_log::{
     BytesEnd, Loss, bytes_end, log_judgement, log_loss, log_unreachable, log_update, loss_of,
+    words_of,
 };
 use ads::Client;
 use attributes::Conn;
@@ -49,6 +51,7 @@ pub struct Observers<'r, R: Clock, F: LogFiles + Drop> {
     sample: Sample,
     // why the last bytes of the update stream end it
     end: Option<BytesEnd>,
+    next_message: NextMessage,
     // when an event of the update stream was last seen, in microseconds
     looked: u64,
     // why a connection could not be accepted, if that was not reported yet
@@ -77,6 +80,7 @@ impl<'r, R: Clock, F: LogFiles + Drop> Observers<'r, R, F> {
             control: ControlState::new(),
             sample: Sample::new(STEPS_SAMPLE),
             end: None,
+            next_message: NextMessage::new(alloc),
             looked: 0,
             refused: None,
             trace: Trace::new(),
@@ -109,7 +113,7 @@ impl<'r, R: Clock, F: LogFiles + Drop> Observers<'r, R, F> {
         let time = unix_millis(self.rt);
         let mut control = self.control;
         if control.is_up() {
-            note_loss(self.alloc, &mut self.admin.status, time, Loss::Unreachable);
+            note_down(self.alloc, &mut self.admin.status, time, "unreachable");
         }
         if control.look_fails(now) {
             log_unreachable(self.alloc, &mut self.logs.updates, time, cause);
@@ -276,6 +280,7 @@ impl<'r, R: Clock, F: LogFiles + Drop> Observers<'r, R, F> {
     // The update stream was connected. Without an outcome memory ran out, and it is closed.
     fn connected(&mut self, outcome: Option<Outcome>) {
         self.end = None;
+        self.next_message.clear();
         if outcome.is_none() {
             return;
         }
@@ -285,21 +290,25 @@ impl<'r, R: Clock, F: LogFiles + Drop> Observers<'r, R, F> {
     }
 
     // The update stream delivered bytes. Judging a response that they complete took so many microseconds.
-    fn fed(&mut self, outcome: Option<Outcome>, service: &Served<'_>, micros: u64) {
+    fn fed(&mut self, bytes: &[u8], outcome: Option<Outcome>, service: &Served<'_>, micros: u64) {
         let last = service.core().last();
         self.end = bytes_end(last);
+        self.next_message.add(bytes);
         let (Some(_), Some(judgement)) = (outcome, last.judgements.last()) else {
             return;
         };
+        self.next_message.begin_last(last.judgements.len());
         let judged = JudgedResponse {
             judgement,
             client: service.client(),
             micros,
             time: unix_millis(self.rt),
+            message: self.next_message.message(),
         };
         let _ = note_judgement(self.alloc, &mut self.admin, &judged);
         log_judgement(self.alloc, &mut self.logs.updates, &judged);
         count_judgement(&mut self.admin.metrics, &judged);
+        self.next_message.judged();
     }
 
     // How long bytes of the update stream took, in microseconds. That is since the last event of that stream was seen, or
@@ -316,19 +325,18 @@ impl<'r, R: Clock, F: LogFiles + Drop> Observers<'r, R, F> {
 
     // Looks at the clock after an event of the update stream.
     fn look(&mut self, event: &Event<'_, Conn>) {
-        match event {
-            Event::Connected | Event::Received(Stream::Updates, _) => {
-                self.looked = micros(self.rt);
-            }
-            _ => {}
+        if let Event::Connected | Event::Received(Stream::Updates, _) = event {
+            self.looked = micros(self.rt);
         }
     }
 
     // The update stream was lost.
     fn lost(&mut self, loss: Loss) {
-        let time = unix_millis(self.rt);
-        note_loss(self.alloc, &mut self.admin.status, time, loss);
-        log_loss(self.alloc, &mut self.logs.updates, time, loss);
+        let (alloc, time) = (self.alloc, unix_millis(self.rt));
+        if let Ok(why) = words_of(alloc, loss, self.next_message.message()) {
+            note_down(alloc, &mut self.admin.status, time, why.as_str());
+            log_loss(alloc, &mut self.logs.updates, time, why.as_str());
+        }
     }
 
     // The update stream could not be connected, for this cause.
@@ -336,7 +344,7 @@ impl<'r, R: Clock, F: LogFiles + Drop> Observers<'r, R, F> {
         ensures { self.new.trace ≡ self.old.trace }
     {
         let time = unix_millis(self.rt);
-        note_loss(self.alloc, &mut self.admin.status, time, Loss::Unreachable);
+        note_down(self.alloc, &mut self.admin.status, time, "unreachable");
         log_unreachable(self.alloc, &mut self.logs.updates, time, cause);
     }
 }
@@ -369,7 +377,7 @@ impl<'m, 'r, R: Clock, F: LogFiles + Drop> Observer<Conn, Served<'m>> for Observ
             Event::Received(Stream::Place(k), _) => self.received(k, record, service),
             Event::Closed(Stream::Place(k), reason) => self.closed(k, reason),
             Event::Connected => self.connected(outcome),
-            Event::Received(Stream::Updates, _) => self.fed(outcome, service, passed),
+            Event::Received(Stream::Updates, bytes) => self.fed(bytes, outcome, service, passed),
             Event::Closed(Stream::Updates, reason) => self.lost(loss_of(reason, self.end)),
             Event::Drain => self.admin.status.drains = true,
         }

@@ -1,12 +1,15 @@
 //! The judgements of a control plane's responses, for the log of updates and the status.
-ghost use Rattle.std.specs.Prelude.{◌≡◌, IfOk};
+ghost use Rattle.std.specs.Prelude.{◌≡◌, IfOk, IfSome};
+ghost use Rattle.ads.specs.Ends.{client_view};
+ghost use Rattle.serve_observe.specs.Gaps.{AreGaps};
 ghost use Rattle.serve_observe.specs.Places.{places_from};
-ghost use Rattle.serve_observe.specs.Responses.{SaysAccepted, SaysRefused};
+ghost use Rattle.serve_observe.specs.Responses.{SaysAccepted, SaysIncomplete, SaysRefused};
 
+use crate::gaps::Gaps;
 use ads::{Client, Judgement, Refused};
-use fault_texts::{ResponseFault, fault_of};
+use fault_texts::{GuessedFormat, ResponseFault, fault_of, likeness_of_response};
 use proto_wire::Refusal;
-use serve_log::{Acknowledged, Update};
+use serve_log::{Acknowledged, Incomplete, Update};
 use std::alloc::{AllocError, Global};
 
 /// The places in the configuration of the filters to which a response gave policies.
@@ -33,6 +36,8 @@ pub(crate) struct JudgedResponse<'a> {
     pub(crate) micros: u64,
     /// When it ended, in milliseconds since 1970.
     pub(crate) time: u64,
+    /// The message of the response; no bytes if memory ran out for them.
+    pub(crate) message: &'a [u8],
 }
 
 impl<'a> JudgedResponse<'a> {
@@ -44,12 +49,42 @@ impl<'a> JudgedResponse<'a> {
     ) -> Result<RefusalCause<'a>, AllocError> {
         let reason = refused.fault.refusal;
         let fault = fault_of(alloc, refused, self.client.config());
-        let cause = fault.part.meaning(reason).to_string(alloc)?;
+        let likeness = match fault.filter {
+            Some(_) => None,
+            None => likeness_of_response(self.message),
+        };
+        let meaning = fault.part.meaning(reason).to_string(alloc)?;
+        let cause = with_likeness(alloc, meaning, likeness)?;
         Ok(RefusalCause {
             reason,
             cause,
             fault,
         })
+    }
+
+    /// What it leaves open, if it was accepted. Without memory for that, nothing is said.
+    pub(crate) fn gaps(&self, alloc: Global) -> Option<Gaps<'a>>
+        ensures { IfSome result (AreGaps (client_view self.now.client.now) self.now.message.now) }
+    {
+        if self.message.is_empty() {
+            return None;
+        }
+        match Gaps::of(alloc, self.client, self.message) {
+            Ok(gaps) if !gaps.is_none() => Some(gaps),
+            _ => None,
+        }
+    }
+}
+
+/// A cause, and what the message looks like, if it is plainly no response.
+pub(crate) fn with_likeness(
+    alloc: Global,
+    cause: String,
+    likeness: Option<GuessedFormat>,
+) -> Result<String, AllocError> {
+    match likeness {
+        Some(likeness) => format!(in alloc; "{cause}; the message looks like {likeness}"),
+        None => Ok(cause),
     }
 }
 
@@ -81,6 +116,19 @@ impl RefusalCause<'_> {
             milliseconds: judged.micros / 1_000,
         })
     }
+}
+
+/// What the log of updates says of what a response leaves open that was accepted.
+pub(crate) fn incomplete_update<'u>(judged: &JudgedResponse<'u>, gaps: &'u Gaps<'_>) -> Update<'u>
+    ensures { SaysIncomplete judged.now gaps.now result }
+{
+    Update::Incomplete(Incomplete {
+        version: judged.judgement.version.as_str(),
+        nonce: judged.judgement.nonce.as_str(),
+        generation: judged.client.generation(),
+        without_policies: &gaps.without_policies,
+        unasked: &gaps.unasked,
+    })
 }
 
 /// What the log of updates says of a response that was accepted.

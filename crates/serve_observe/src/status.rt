@@ -1,7 +1,6 @@
 //! What the status says after each event.
 
 use crate::responses::{JudgedResponse, places_of};
-use crate::update_log::{Loss, words_of};
 use ads::{Refused, ResponseOutcome};
 use rbac_policy::Admitted;
 use serve_admin::{Admin, PoliciesStatus, RefusalStatus, Status, StreamStatus};
@@ -12,9 +11,9 @@ pub(crate) fn note_up(status: &mut Status, time: u64) {
     status.stream = StreamStatus::Up { since: time };
 }
 
-/// The update stream is down since this time, in milliseconds since 1970.
-pub(crate) fn note_loss(alloc: Global, status: &mut Status, time: u64, loss: Loss) {
-    if let Ok(why) = words_of(alloc, loss) {
+/// The update stream is down since this time, in milliseconds since 1970, for this reason.
+pub(crate) fn note_down(alloc: Global, status: &mut Status, time: u64, why: &str) {
+    if let Ok(why) = String::from_str(alloc, why) {
         status.stream = StreamStatus::Down { since: time, why };
     }
 }

@@ -2,9 +2,12 @@
 ghost use Rattle.std.specs.Prelude.{◌≡◌};
 ghost use Rattle.serve_observe.specs.Losses.{end_by, loss};
 
-use crate::responses::{JudgedResponse, RefusalCause, accepted_update};
+use crate::gaps::Gaps;
+use crate::responses::{
+    JudgedResponse, RefusalCause, accepted_update, incomplete_update, with_likeness,
+};
 use ads::{Ended, ResponseOutcome};
-use fault_texts::StreamEnd;
+use fault_texts::{StreamEnd, likeness_of_response};
 use serve_core::{LastEvent, OtherProtocol};
 use serve_log::{LogFile, LogFiles, Update, update_line};
 use serve_loop::CloseReason;
@@ -23,8 +26,6 @@ pub(crate) enum BytesEnd {
 /// Why an update stream was lost.
 #[derive(Clone, Copy, PartialEq, Eq, Debug)]
 pub(crate) enum Loss {
-    /// No stream could be opened.
-    Unreachable,
     /// It was closed.
     Closed,
     /// It failed.
@@ -33,6 +34,8 @@ pub(crate) enum Loss {
     Bytes(BytesEnd),
     /// No response came in time.
     NoResponse,
+    /// No byte came for too long.
+    Silence,
     /// A request was not taken in time.
     NotTaken,
     /// Memory ran out.
@@ -57,7 +60,10 @@ pub(crate) fn loss_of(reason: CloseReason, end: Option<BytesEnd>) -> Loss
     match (reason, end) {
         (CloseReason::Served | CloseReason::Foreign, Some(end)) => Loss::Bytes(end),
         (CloseReason::Served | CloseReason::Foreign, None) => Loss::Closed,
-        (CloseReason::Left | CloseReason::Idle | CloseReason::Drained, _) => Loss::Closed,
+        (CloseReason::Left | CloseReason::Idle | CloseReason::Drained | CloseReason::Full, _) => {
+            Loss::Closed
+        }
+        (CloseReason::Silent, _) => Loss::Silence,
         (CloseReason::Reset, _) => Loss::Reset,
         (CloseReason::Slow, _) => Loss::NoResponse,
         (CloseReason::Blocked, _) => Loss::NotTaken,
@@ -65,20 +71,29 @@ pub(crate) fn loss_of(reason: CloseReason, end: Option<BytesEnd>) -> Loss
     }
 }
 
-/// Why an update stream was lost, in words.
-pub(crate) fn words_of(alloc: Global, loss: Loss) -> Result<String, AllocError> {
+/// Why an update stream was lost, in words. A message that is no response may look like something else.
+pub(crate) fn words_of(alloc: Global, loss: Loss, message: &[u8]) -> Result<String, AllocError> {
     let words = match loss {
-        Loss::Unreachable => "unreachable",
         Loss::Closed => "closed",
         Loss::Reset => "reset",
-        Loss::Bytes(BytesEnd::Ended(ended)) => return StreamEnd(ended).to_string(alloc),
+        Loss::Bytes(BytesEnd::Ended(ended)) => return end_words(alloc, ended, message),
         Loss::Bytes(BytesEnd::OtherProtocol(OtherProtocol::Http2)) => "the other end speaks HTTP/2",
         Loss::Bytes(BytesEnd::OtherProtocol(OtherProtocol::Tls)) => "the other end speaks TLS",
         Loss::NoResponse => "no response in time",
+        Loss::Silence => "silence",
         Loss::NotTaken => "a request was not taken in time",
         Loss::Memory => "out of memory",
     };
     String::from_str(alloc, words)
+}
+
+// Why bytes are no response, in words, and what their message looks like.
+fn end_words(alloc: Global, ended: Ended, message: &[u8]) -> Result<String, AllocError> {
+    let likeness = match ended {
+        Ended::BadMessage(_) => likeness_of_response(message),
+        _ => None,
+    };
+    with_likeness(alloc, StreamEnd(ended).to_string(alloc)?, likeness)
 }
 
 /// Logs what happened to the update stream, at this time in milliseconds since 1970.
@@ -105,16 +120,14 @@ pub(crate) fn log_unreachable<F: LogFiles + Drop>(
     }
 }
 
-/// Logs that the update stream was lost.
+/// Logs why the update stream was lost.
 pub(crate) fn log_loss<F: LogFiles + Drop>(
     alloc: Global,
     file: &mut LogFile<F>,
     time: u64,
-    loss: Loss,
+    why: &str,
 ) {
-    if let Ok(why) = words_of(alloc, loss) {
-        log_update(alloc, file, time, &Update::Lost(why.as_str()));
-    }
+    log_update(alloc, file, time, &Update::Lost(why));
 }
 
 /// Logs how a response was judged.
@@ -126,6 +139,9 @@ pub(crate) fn log_judgement<F: LogFiles + Drop>(
     match &judged.judgement.outcome {
         ResponseOutcome::Accepted(_) => {
             log_update(alloc, file, judged.time, &accepted_update(judged));
+            if let Some(gaps) = judged.gaps(alloc) {
+                log_gaps(alloc, file, judged, &gaps);
+            }
         }
         ResponseOutcome::Refused(refused) => {
             if let Ok(cause) = judged.refusal_cause(alloc, refused) {
@@ -133,6 +149,17 @@ pub(crate) fn log_judgement<F: LogFiles + Drop>(
             }
         }
     }
+}
+
+// Logs what a response leaves open that was accepted.
+fn log_gaps<F: LogFiles + Drop>(
+    alloc: Global,
+    file: &mut LogFile<F>,
+    judged: &JudgedResponse<'_>,
+    gaps: &Gaps<'_>,
+) {
+    let update = incomplete_update(judged, gaps);
+    log_update(alloc, file, judged.time, &update);
 }
 
 // Logs that a response was refused for this cause.

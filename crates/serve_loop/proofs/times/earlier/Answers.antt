@@ -1,8 +1,8 @@
 -- The earliest of times, with one time more.
 use Rattle.std.proofs.Common.{Some, arith}
-use Rattle.serve_host.specs.Earliest.{IsLeast}
-use Rattle.serve_host.proofs.LeastTimes.{least_new, least_old, least_still}
-use Rattle.serve_host.proofs.times.earlier.Goals as goal
+use Rattle.serve_loop.specs.Earliest.{IsLeast}
+use Rattle.serve_loop.proofs.LeastTimes.{least_new, least_old, least_still}
+use Rattle.serve_loop.proofs.times.earlier.Goals as goal
 
 pub returns-in_default : goal.returns-in_default
 returns-in_default c = λ times is least. rw c.in_default.is (least_still times c.args.found least)

@@ -1,9 +1,9 @@
 //! Which of several times is the earliest.
 ghost use Rattle.std.specs.Prelude.{◌≡◌, ◌++◌, ℕ, List, [], ◌∷◌, Option, length};
-ghost use Rattle.serve_host.specs.Earliest.{IsEarliest, IsLeast};
+ghost use Rattle.serve_loop.specs.Earliest.{IsEarliest, IsLeast};
 
 /// The place of the earliest time; none if there is none.
-pub(crate) fn earliest(times: &[Option<u64>]) -> Option<usize>
+pub fn earliest(times: &[Option<u64>]) -> Option<usize>
     ensures { IsEarliest times.now result }
 {
     let mut found: Option<(usize, u64)> = None;
@@ -16,8 +16,12 @@ pub(crate) fn earliest(times: &[Option<u64>]) -> Option<usize>
     }
 }
 
-// The earliest of these times, after one more: the one in place `k`.
-fn earlier(found: Option<(usize, u64)>, k: usize, time: Option<u64>) -> Option<(usize, u64)>
+/// The earliest of these times, after one more: the one in place `k`.
+pub(crate) fn earlier(
+    found: Option<(usize, u64)>,
+    k: usize,
+    time: Option<u64>,
+) -> Option<(usize, u64)>
     ensures { (times : List (Option ℕ)) → length times ≡ k → IsLeast times found → IsLeast (times ++ time ∷ []) result }
 {
     let Some(time) = time else {

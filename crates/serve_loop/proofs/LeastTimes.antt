@@ -1,6 +1,6 @@
 -- The earliest of times, with one time more at their end.
 use Rattle.std.proofs.Common.{◌≡◌, ◌≤◌, ◌<◌, ◌++◌, ◌⊎◌, inl, inr, ℕ, suc, zero, List, [], ◌∷◌, Option, Some, None, get_or, length, refl, arith}
-use Rattle.serve_host.specs.Earliest.{IsLeast}
+use Rattle.serve_loop.specs.Earliest.{IsLeast}
 
 -- the last one is the new one
 pub last_is : (times : List (Option ℕ)) (time : Option ℕ) → get_or (times ++ time ∷ []) (length times) None ≡ time

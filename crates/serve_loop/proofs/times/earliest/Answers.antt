@@ -1,7 +1,7 @@
 -- One time more.
 use Rattle.std.proofs.Common.{None, arith, take}
 use Rattle.std.proofs.lemmas.List.{length-take-le, take_more}
-use Rattle.serve_host.proofs.times.earliest.Goals as goal
+use Rattle.serve_loop.proofs.times.earliest.Goals as goal
 
 pub loop-k-preserved : goal.loop-k-preserved
 loop-k-preserved c =

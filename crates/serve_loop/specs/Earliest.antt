@@ -1,4 +1,4 @@
--- The earliest of times (this project's own; docs/REFERENCE.md, "The admin port").
+-- The earliest of times (this project's own; docs/REFERENCE.md, "The settings of a server" and "The admin port").
 use Rattle.std.specs.Prelude.{◌≡◌, ◌≤◌, ℕ, List, Option, None, Some, get_or}
 
 -- the place has the earliest of these times; none if there is no time
