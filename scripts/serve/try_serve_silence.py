@@ -79,7 +79,7 @@ def silent_plane(case):
     case.holds("a silent one is closed", stream.is_closed())
     passed = time.monotonic() - begin
     case.holds("after so long", silence - 0.1 <= passed < silence + 1 * case.scale, passed)
-    case.same("the reason", server.losses(), ["silence"])
+    case.until("the reason is logged", lambda: server.losses()[:1] == ["silence"])
     found = server.metrics()["rbacd_control_silence_seconds"]
     case.holds("the gauge", silence - 0.2 <= found < 2.5 * silence, found)
     case.same("it is ready", server.fetch("/ready"), (200, b"ready\n"))
