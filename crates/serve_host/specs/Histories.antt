@@ -4,6 +4,6 @@ use Rattle.serve_core.specs.Turns.{ServerFacts, ServerStep}
 use Rattle.serve_host.specs.declared.history.History.{History}
 use Rattle.serve_loop.specs.Law.{wire_of}
 
--- this is all that happened on the wire of some network of the system, which was opened with these facts
+-- a history that was opened with these facts has noted this wire
 abbrev pub IsHistoryBy : ServerFacts → List ServerStep → Type 0
 IsHistoryBy conn wire = (history : History) × (history.conn ≡ conn) × (wire_of history.trace.turns ≡ wire)

@@ -61,7 +61,7 @@ HasEnds known peer local facts = (begun : Facts) × IsSource peer known begun ×
 abbrev pub AreFactsAt : Facts → Option SocketAddr → Option SocketAddr → ServerFacts → Type 0
 AreFactsAt known peer local conn = HasEnds known peer local (conn_view conn)
 
--- the facts of a connection are known, beside its addresses: those that its socket gave, or none
+-- the facts of a connection are known, beside its addresses: those of two sockets, or none
 abbrev pub AreKnownFacts : Facts → ServerFacts → Type 0
 AreKnownFacts known conn = (peer : Option SocketAddr) × (local : Option SocketAddr) × AreFactsAt known peer local conn
 

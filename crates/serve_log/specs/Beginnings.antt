@@ -81,8 +81,8 @@ module _ {W : Type 0} (contents : W → Option (List ℕ)) where
   abbrev pub IsBegun : Updates → ℕ → RecordFile W → Type 0
   IsBegun updates number file = (writer : W) × IsBegunBy writer updates number file
 
-  -- the file that is written goes on without an event. Or another one is begun with the next number, and that one is the
-  -- last of the older files. No older file gets an event, and some may be closed
+  -- the file that is written goes on without an event. Or another one is begun with the next number, and that one becomes
+  -- an older file. No older file gets an event, and some may be closed
   abbrev pub GoesOn : Updates → OpenFiles W → OpenFiles W → Type 0
   GoesOn updates old new =
       (Takes contents [] old.current new.current 0 × StayOpen contents old.older.items new.older.items)
