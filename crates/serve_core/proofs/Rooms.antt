@@ -1,5 +1,5 @@
 -- How many bytes a worker takes.
-use Rattle.std.proofs.Common.{ℕ, Bool, true, false, ◌==◌, ◌^◌, ◌-◌, ◌≤◌, min, if◌then◌else◌}
+use Rattle.std.proofs.Common.{ℕ, Bool, true, false, ◌==◌, ◌^◌, ◌-◌, ◌≤◌, min, arith, if◌then◌else◌}
 use Rattle.std.proofs.Math.Nat.{le_refl, le_trans, min-le_right}
 use Rattle.rbac_serve.specs.Tables.{WorkerValue, body_at}
 use Rattle.proxy_core.specs.Step.{front_at}
@@ -15,7 +15,8 @@ either_most false x y most one other = other
 -- never more than a read can give
 taken_most : (left : ℕ) → bytes_taken left ≤ 2 ^ 64 - 1
 taken_most left =
-    either_most (left == 0) (2 ^ 64 - 1) (min left (2 ^ 64 - 1)) (2 ^ 64 - 1) (le_refl (2 ^ 64 - 1)) (min-le_right left (2 ^ 64 - 1))
+    either_most (left == 0) (2 ^ 64 - 1) (min left 16383) (2 ^ 64 - 1) (le_refl (2 ^ 64 - 1))
+    (le_trans (min-le_right left 16383) (omega arith))
 
 -- what a worker takes, a step of it takes
 pub fits_more : (w : WorkerValue) (n : ℕ) (event : ServerEvent) → Fits (worker_room w n) event → Fits (λ s. room_for s n) event

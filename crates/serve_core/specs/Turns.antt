@@ -96,10 +96,10 @@ abbrev pub room_for : Stream → ℕ → ℕ
 room_for (Place k) updates = 2 ^ 64 - 1
 room_for Updates updates = updates
 
--- how many bytes of a connection are taken if so many are left of a body: no more than these. So the next request begins
--- with another event
+-- how many bytes of a connection are taken if so many are left of a body: no more than these, and less than 16 KiB. So
+-- the next request begins with another event
 abbrev pub bytes_taken : ℕ → ℕ
-bytes_taken left = if left == 0 then 2 ^ 64 - 1 else min left (2 ^ 64 - 1)
+bytes_taken left = if left == 0 then 2 ^ 64 - 1 else min left 16383
 
 -- how many bytes of a stream the worker takes, if it takes so many of the updates
 abbrev pub worker_room : WorkerValue → ℕ → Stream → ℕ

@@ -105,6 +105,10 @@ impl Service<Conn> for WorkerService {
     }
 }
 
+// How many bytes of a connection are taken at once amid a body: less than 16 KiB, so that a network knows that the read is
+// one of a body.
+const BODY_ROOM: u64 = 16_383;
+
 // How many bytes of a connection are taken at once: of a body no more than is left. So the next request begins with
 // another event, and the connection is fresh between the two.
 fn bytes_taken(left: u64) -> usize
@@ -113,5 +117,5 @@ fn bytes_taken(left: u64) -> usize
     if left == 0 {
         return usize::MAX;
     }
-    left.min(usize::MAX as u64) as usize
+    left.min(BODY_ROOM) as usize
 }

@@ -118,13 +118,18 @@ pub some_bytes : (w : List ℕ) → ¬ (w ≡ []) → 0 < length w
 some_bytes [] not = absurd (not refl)
 some_bytes (b ∷ w) not = omega arith
 
-module _ (w : List ℕ) (r : Option (List ℕ)) (room new : List ℕ) (n : ℕ) (some : 0 < length w)
-    (count : n ≡ min (length (piece_of w)) (length room))
+-- the piece is a part
+pub piece_part : (w : List ℕ) → length (piece_of w) ≤ length w
+piece_part w =
+    let (rest, is) = piece_begins w in
+    let whole = ap length is ∙ length-append (piece_of w) rest in omega arith
+
+-- so many of the bytes that waited are given, as far as there is room
+module _ (w : List ℕ) (r : Option (List ℕ)) (room new : List ℕ) (n many : ℕ) (some : 0 < many) (part : many ≤ length w)
+    (count : n ≡ min many (length room))
     (given : new ≡ take n w ++ drop n room) where
   within : n ≤ length w
-  within =
-      let (rest, is) = piece_begins w in
-      let whole = ap length is ∙ length-append (piece_of w) rest in omega arith
+  within = omega arith
 
   first_given : take n new ≡ take n w
   first_given =
@@ -141,8 +146,7 @@ module _ (w : List ℕ) (r : Option (List ℕ)) (room new : List ℕ) (n : ℕ) 
   -- something is given, since something waits
   pub never_none : n ≡ 0 → 0 < length new → ⊥
   never_none none room_left =
-      let same = same_room (omega arith) in
-      let piece = piece_some w some in omega arith
+      let same = same_room (omega arith) in omega arith
 
   pub gave : Consumes (prepend_known w r) (prepend_known (drop n w) r) (take n new)
   gave = rw first_given (given_first n w r)

@@ -9,8 +9,12 @@ use byte_queue::ByteQueue;
 use std::alloc::{AllocError, Global};
 use std::io::{self, Read};
 
+// Who reads less than so many bytes at once is amid a body.
+const WHOLE_READ: usize = 16_384;
+
 /// A reader over a stream. Each read gives bytes of at most one request, and what was read beyond it is kept for the
-/// next one. If there is no memory to keep it, it is given at once.
+/// next one. If there is no memory to keep it, it is given at once. A read with room for less than 16 KiB is amid a body,
+/// and gives all that it can: the lines of a body are no heads.
 #[derive(Drop)]
 pub(crate) struct RequestReader<S: Read + Drop> {
     alloc: Global,
@@ -36,7 +40,36 @@ impl<S: Read + Drop> RequestReader<S> {
         &mut self.stream
     }
 
-    // Gives bytes that were kept.
+    // Gives bytes that were kept, as many as there is room for.
+    fn give_all(&mut self, room: &mut [u8]) -> usize
+        ensures count { result ≡ min (length self.old.kept.waiting) (length room.old) }
+        ensures given { room.new ≡ take result self.old.kept.waiting ++ drop result room.old }
+        ensures left { self.new.kept.waiting ≡ drop result self.old.kept.waiting }
+        ensures stream { self.new.stream ≡ self.old.stream }
+    {
+        let rest = self.kept.rest();
+        let count = rest.len().min(room.len());
+        room[..count].copy_from_slice(&rest[..count]);
+        self.kept.take(count);
+        if self.kept.is_empty() {
+            self.kept = ByteQueue::new(self.alloc);
+        }
+        count
+    }
+
+    // Gives bytes amid a body: those that were kept, or those of the stream.
+    fn go_on(&mut self, room: &mut [u8]) -> io::Result<usize>
+        ensures bound { ReadsAtMost result room.new }
+        ensures bytes { ReadConsumes (prepend_known self.old.kept.waiting (S.remaining self.old.stream))
+            (prepend_known self.new.kept.waiting (S.remaining self.new.stream)) result room.new }
+    {
+        if self.kept.is_empty() {
+            return self.stream.read(room);
+        }
+        Ok(self.give_all(room))
+    }
+
+    // Gives bytes that were kept, of at most one request.
     fn give(&mut self, room: &mut [u8]) -> usize
         ensures count { result ≡ min (length (piece_of self.old.kept.waiting)) (length room.old) }
         ensures given { room.new ≡ take result self.old.kept.waiting ++ drop result room.old }
@@ -74,6 +107,9 @@ impl<S: Read + Drop> Read for RequestReader<S> {
     ghost remaining = { λ r. prepend_known r.kept.waiting (S.remaining r.stream) };
 
     fn read(&mut self, buf: &mut [u8]) -> io::Result<usize> {
+        if buf.len() < WHOLE_READ {
+            return self.go_on(buf);
+        }
         if self.kept.is_empty() {
             return self.receive(buf);
         }
