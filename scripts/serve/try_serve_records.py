@@ -154,6 +154,17 @@ def amid_bodies(case):
     case.same("the files of the lines", places, set(range(1, len(files) + 1)))
 
 
+def body_of_lines(case):
+    """A body of empty lines, with its head and the next request in one piece: it is recorded in a few lines, and not in one for each."""
+    server, _, _ = case.ready(record={"path": "record"})
+    head = POST[:-2] + b"Content-Length: 100000\r\n\r\n"
+    peer = server.answers("two requests", [(head + b"\n" * 100_000 + PLAIN, allowed(b"0", 1) * 2)])
+    server.answers("one more", [(PLAIN, allowed(b"0", 1))], peer)
+    case.until("all is recorded", lambda: replayed(case, "record", 0) == allowed(b"0", 1) * 3)
+    lines = [it for it in events(case, "record") if it["event"] == "http_bytes"]
+    case.holds("in a few lines", len(lines) < 100, len(lines))
+
+
 def fed(case, record):
     """The bytes of the update stream in a file of the record."""
     return b"".join(bytes.fromhex(it["hex"]) for it in events(case, record) if it["event"] == "ads_bytes")
@@ -209,4 +220,4 @@ def full_record(case):
     case.same("its replay", replayed(case, "record", 0), GET_YES)
 
 
-CASES = {it.__name__: it for it in (removed_record, record, rotation, amid_bodies, lost_streams, full_record)}
+CASES = {it.__name__: it for it in (removed_record, record, rotation, amid_bodies, body_of_lines, lost_streams, full_record)}

@@ -1,5 +1,5 @@
 //! A reader that gives one request at once.
-ghost use Rattle.std.specs.Prelude.{◌≡◌, ◌++◌, [], drop, length, min, take, IfOk};
+ghost use Rattle.std.specs.Prelude.{◌≡◌, ◌≤◌, ◌++◌, [], drop, length, min, take, IfOk};
 ghost use Rattle.std.specs.Io.{ReadsAtMost};
 ghost use Rattle.std.specs.Io.KnownBytes.{ReadConsumes, prepend_known};
 ghost use Rattle.serve_host.specs.Pieces.{IsOnePiece, piece_of};
@@ -40,6 +40,22 @@ impl<S: Read + Drop> RequestReader<S> {
         &mut self.stream
     }
 
+    // Gives so many of the bytes that were kept.
+    fn give_first(&mut self, room: &mut [u8], count: usize)
+        requires kept { count ≤ length self.old.kept.waiting }
+        requires room { count ≤ length room.old }
+        ensures given { room.new ≡ take count self.old.kept.waiting ++ drop count room.old }
+        ensures left { self.new.kept.waiting ≡ drop count self.old.kept.waiting }
+        ensures stream { self.new.stream ≡ self.old.stream }
+    {
+        let rest = self.kept.rest();
+        room[..count].copy_from_slice(&rest[..count]);
+        self.kept.take(count);
+        if self.kept.is_empty() {
+            self.kept = ByteQueue::new(self.alloc);
+        }
+    }
+
     // Gives bytes that were kept, as many as there is room for.
     fn give_all(&mut self, room: &mut [u8]) -> usize
         ensures count { result ≡ min (length self.old.kept.waiting) (length room.old) }
@@ -47,13 +63,8 @@ impl<S: Read + Drop> RequestReader<S> {
         ensures left { self.new.kept.waiting ≡ drop result self.old.kept.waiting }
         ensures stream { self.new.stream ≡ self.old.stream }
     {
-        let rest = self.kept.rest();
-        let count = rest.len().min(room.len());
-        room[..count].copy_from_slice(&rest[..count]);
-        self.kept.take(count);
-        if self.kept.is_empty() {
-            self.kept = ByteQueue::new(self.alloc);
-        }
+        let count = self.kept.rest().len().min(room.len());
+        self.give_first(room, count);
         count
     }
 
@@ -76,13 +87,8 @@ impl<S: Read + Drop> RequestReader<S> {
         ensures left { self.new.kept.waiting ≡ drop result self.old.kept.waiting }
         ensures stream { self.new.stream ≡ self.old.stream }
     {
-        let rest = self.kept.rest();
-        let count = piece(rest).min(room.len());
-        room[..count].copy_from_slice(&rest[..count]);
-        self.kept.take(count);
-        if self.kept.is_empty() {
-            self.kept = ByteQueue::new(self.alloc);
-        }
+        let count = piece(self.kept.rest()).min(room.len());
+        self.give_first(room, count);
         count
     }
 
