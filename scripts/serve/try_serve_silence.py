@@ -97,17 +97,25 @@ def silent_plane(case):
     server.stop()
 
 
+def is_ready(server):
+    """Whether it is ready; it is not before it listens."""
+    try:
+        return server.fetch("/ready")[0] == 200
+    except ConnectionRefusedError:
+        return False
+
+
 def file_is_heard(case):
     """A file is heard at each look that reads it, and its stream never ends by silence."""
     put(case, FIRST[5:])
     server = case.serve("file:policies", silence=1, stale_after=max(2, round(2 * case.scale)))
-    case.until("it is ready", lambda: server.fetch("/ready")[0] == 200)
+    case.until("it is ready", lambda: is_ready(server))
     time.sleep(3 * case.scale)
     case.same("it stays so", (server.fetch("/ready")[0], server.losses()), (200, []))
     put(case, None)
     case.until("a file that is gone is not heard", lambda: server.fetch("/ready")[0] == 503)
     put(case, FIRST[5:])
-    case.until("it is back", lambda: server.fetch("/ready")[0] == 200)
+    case.until("it is back", lambda: is_ready(server))
 
 
 def left_open(case):
@@ -137,7 +145,7 @@ def faulty_file(case):
     """A control file that is a bare filter, JSON or YAML: the log of updates says so, and the policies stay."""
     put(case, FIRST[5:])
     server = case.serve("file:policies")
-    case.until("it is ready", lambda: server.fetch("/ready")[0] == 200)
+    case.until("it is ready", lambda: is_ready(server))
     for content, words in FAULTY:
         put(case, content)
         words = f"; the message looks like {words}"
