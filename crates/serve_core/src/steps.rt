@@ -105,8 +105,7 @@ impl Service<Conn> for WorkerService {
     }
 }
 
-// How many bytes of a connection are taken at once amid a body: less than 16 KiB, so that a network knows that the read is
-// one of a body.
+// How many bytes of a connection are taken at once amid a body: less than 16 KiB. By that a network knows a read of a body.
 const BODY_ROOM: u64 = 16_383;
 
 // How many bytes of a connection are taken at once: of a body no more than is left. So the next request begins with

@@ -13,8 +13,8 @@ use std::io::{self, Read};
 const WHOLE_READ: usize = 16_384;
 
 /// A reader over a stream. Each read gives bytes of at most one request, and what was read beyond it is kept for the
-/// next one. If there is no memory to keep it, it is given at once. A read with room for less than 16 KiB is amid a body,
-/// and gives all that it can: the lines of a body are no heads.
+/// next one. If there is no memory to keep it, it is given at once. A read with room for less than 16 KiB is amid a body.
+/// It gives all that it can, since the lines of a body are no heads.
 #[derive(Drop)]
 pub(crate) struct RequestReader<S: Read + Drop> {
     alloc: Global,
