@@ -418,7 +418,7 @@ def not_listening(case):
         said = handed(case, it)
         errors = said.communicate(timeout=30 * case.scale)[1]
         case.same(f"{what}: the status", said.returncode, 2)
-        case.holds(f"{what}: the line", errors.startswith(b"rbacd: ") and b"fd:3" in errors, errors)
+        case.holds(f"{what}: the line", errors.startswith(b"cannot listen on fd:3: "), errors)
 
 
 CASES = {it.__name__: it for it in (check, examples, bad_settings, several_mistakes, strange_records, addresses, unix_paths, facts,
