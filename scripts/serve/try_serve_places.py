@@ -102,6 +102,8 @@ def few_descriptors(case):
     case.same("none was refused", [found[it] for it in names], [19, 20, 0])
     case.same("the admin port is well", server.fetch("/healthz")[0], 200)
     server.answers("the last is served on", [(PLAIN, YES)], peers[-1])
+    case.until("standard error says that the last place was taken", lambda: "the limit of 20 connections is reached" in server.errors.read_text())
+    server.stop()
     said = server.errors.read_text()
     server, _, _ = case.ready(limit="--nofile=84:84", connections=20)
     case.same("nothing is said where all fit", server.errors.read_text(), said)
