@@ -210,4 +210,4 @@ def connects(server):
     return False
 
 
-CASES = {it.__name__: it for it in (head, body, idle, write, lingers, first_response, deaf_control, drain)}
+CASES = {it.__name__: it for it in (head, body, idle, write, lingers, first_response, deaf_control, drain, drained_pipeline)}
