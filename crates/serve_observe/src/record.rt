@@ -10,7 +10,7 @@ ghost use Rattle.serve_log.specs.Recording.{Feeds};
 use crate::responses::places_of;
 use ads::{Judgement, ResponseOutcome};
 use attributes::Conn;
-use serve_core::{ClientRequest, Served, WorkerService};
+use serve_core::{Served, WorkerService};
 use serve_log::{LogFiles, RecordPosition, Recorder, UpdateBytes};
 use serve_loop::{Event, Outcome, Stream};
 use std::alloc::{AllocError, Global};
@@ -105,19 +105,6 @@ fn last_outcome(judgements: &[Judgement]) -> Option<&ResponseOutcome>
         Some(judgement) => Some(&judgement.outcome),
         None => None,
     }
-}
-
-/// What the record is given of the request of a client, which is a connection of its own in this place, with this
-/// number.
-pub(crate) fn client_entries(k: usize, number: u64, request: &ClientRequest) -> [Entry<'_, '_>; 3]
-    ensures events { map event_in result ≡ client_events k request.now.conn (string_bytes request.now.head) }
-    ensures number { option_map number_in (slice_get result 0) ≡ Some (Some number) }
-{
-    [
-        Entry::Opened(k, number, &request.conn),
-        Entry::Received(k, request.head.as_bytes(), true),
-        Entry::Closed(k),
-    ]
 }
 
 /// Gives an entry to the record. Returns where the record has the bytes of a connection; none if it has not.
