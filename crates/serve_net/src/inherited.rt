@@ -23,9 +23,6 @@ impl Inherited {
     /// Takes the socket that was opened as this descriptor. Fails with `InvalidInput` if it is below 3, and with the
     /// system's error unless it is a TCP or Unix socket that listens. In the latter case the descriptor is closed.
     pub(crate) fn take(descriptor: i32) -> io::Result<Inherited> {
-        if descriptor < FIRST {
-            return Err(io::Error::from(ErrorKind::InvalidInput));
-        }
         let listener = listener_of(descriptor)?;
         let first = match listener.accept() {
             Ok(first) => Some(first),
@@ -36,8 +33,11 @@ impl Inherited {
     }
 }
 
-// The socket that has this descriptor. One without an address of TCP is a Unix socket, or it is refused.
+// The socket that has this descriptor, from 3 on. One without an address of TCP is a Unix socket, or it is refused.
 fn listener_of(descriptor: i32) -> io::Result<Listener> {
+    if descriptor < FIRST {
+        return Err(io::Error::from(ErrorKind::InvalidInput));
+    }
     // A process gets no more of such a socket than its number, so an owner is made of the number, here and nowhere
     // else. The caller takes each number once, and before this process opens a socket itself.
     let listener = unsafe { net::TcpListener::from_raw_fd(descriptor) };
@@ -46,7 +46,8 @@ fn listener_of(descriptor: i32) -> io::Result<Listener> {
         return Ok(Listener::Tcp(TcpListener::from_std(listener)));
     }
     // the first owner gives the number back, so the second one is alone
-    let listener = unsafe { unix::UnixListener::from_raw_fd(listener.into_raw_fd()) };
+    let _ = listener.into_raw_fd();
+    let listener = unsafe { unix::UnixListener::from_raw_fd(descriptor) };
     listener.local_addr()?;
     listener.set_nonblocking(true)?;
     Ok(Listener::Unix(UnixListener::from_std(listener)))
