@@ -1,5 +1,5 @@
 -- What the record gets at each entry, and at each event (this project's own; docs/OPERATING.md, "The record").
-use Rattle.std.specs.Prelude.{◌≡◌, ◌+◌, ◌-◌, ◌^◌, ℕ, Bool, true, false, List, [], ◌∷◌, Option, None, Some, IfSome, map, min, option_map, slice_get, string_bytes}
+use Rattle.std.specs.Prelude.{◌≡◌, ◌+◌, ◌-◌, ◌^◌, ℕ, Bool, true, false, List, [], ◌∷◌, Option, None, Some, IfSome, min, option_map, string_bytes}
 use Rattle.attributes.specs.Conn.{conn_view}
 use Rattle.proxy_core.specs.Events.{ads_lost, ads_up}
 use Rattle.serve_log.specs.Files.{AddsToAll}
@@ -15,7 +15,7 @@ use Rattle.serve_core.specs.declared.front_answer.FrontAnswer.{FrontAnswer}
 use Rattle.serve_core.specs.declared.front_answer.FrontAnswer.TheVariants.{Judged, Unjudged}
 use Rattle.serve_core.specs.declared.served.Served.{Served}
 use Rattle.serve_core.specs.declared.served.Served.TheVariants.{AsSent, Mapped}
-use Rattle.serve_observe.specs.Entries.{Says, client_events, event_in, number_in, recorded}
+use Rattle.serve_observe.specs.Entries.{Says, event_in, recorded}
 use Rattle.serve_observe.specs.declared.record.Entry.{Entry}
 use Rattle.serve_observe.specs.declared.record.Entry.TheVariants as entries
 
@@ -59,30 +59,38 @@ module _ {W : Type 0} (contents : W → Option (List ℕ)) where
   RecordsOne None old new = new ≡ old
   RecordsOne (Some entry) old new = Records contents entry old.0 new.0 old.1 new.1
 
-  -- the record gets the entries, in order
-  abbrev pub RecordsAll : List Entry → Recorded W → Recorded W → Type 0
-  RecordsAll [] old new = new ≡ old
-  RecordsAll (entry ∷ entries) old new =
-      (between : Recorded W) × Records contents entry old.0 between.0 old.1 between.1 × RecordsAll entries between new
+  -- the record gets what is recorded of an event itself, in which a connection that opens has this number
+  pub record RecordsOwn (service : Served) (is_taken : Bool) (e : ServerEvent) (n : ℕ) (old new : Recorded W) : Type 0 where
+    pub entry : Option Entry
+    pub event : option_map event_in entry ≡ recorded service is_taken e
+    pub says : IfSome entry (Says (served_core service) n)
+    pub records : RecordsOne entry old new
 
-  -- the record gets a client's request, which is a connection of its own with this number
+  -- the record gets a client's request: a connection of its own opens in this place, with this number and the facts,
+  -- delivers the head and is closed
   pub record RecordsRequest (k n : ℕ) (request : ClientRequest) (old new : Recorded W) : Type 0 where
-    pub entries : List Entry
-    pub events : map event_in entries ≡ client_events k request.conn (string_bytes request.head)
-    pub number : option_map number_in (slice_get entries 0) ≡ Some (Some n)
-    pub records : RecordsAll entries old new
+    pub opened : Recorded W
+    pub received : Recorded W
+    pub opens : Begins contents n (conn_view request.conn) (connection_at k opened.0) old.1 opened.1
+    pub receives : Receives contents (string_bytes request.head) true (connection_at k opened.0) (connection_at k received.0)
+        opened.1 received.1
+    pub ends : Ends contents (connection_at k received.0) received.1 new.1
 
   -- the record gets a client's request, which takes the next number
   abbrev pub RecordsClient : ℕ → ClientRequest → Numbered W → Numbered W → Type 0
   RecordsClient k request old new =
       RecordsRequest k old.0 request old.1 new.1 × (new.0 ≡ next_number old.0)
 
+  -- the record gets the client's request that was judged, if one was
+  abbrev pub RecordsAnswer : ℕ → FrontAnswer → Numbered W → Numbered W → Type 0
+  RecordsAnswer k (Judged request) old new = RecordsClient k request old new
+  RecordsAnswer k (Unjudged unjudged reply) old new = new ≡ old
+
   -- the record gets each client's request that was judged, in order
   abbrev pub RecordsClients : ℕ → List FrontAnswer → Numbered W → Numbered W → Type 0
   RecordsClients k [] old new = new ≡ old
-  RecordsClients k (Judged request ∷ answers) old new =
-      (between : Numbered W) × RecordsClient k request old between × RecordsClients k answers between new
-  RecordsClients k (Unjudged unjudged reply ∷ answers) old new = RecordsClients k answers old new
+  RecordsClients k (answer ∷ answers) old new =
+      (between : Numbered W) × RecordsAnswer k answer old between × RecordsClients k answers between new
 
   -- what the record gets of the answers to bytes from this place: of a front its clients' requests, else nothing more
   abbrev pub RecordsAnswers : ℕ → Served → Numbered W → Numbered W → Type 0
@@ -100,9 +108,6 @@ module _ {W : Type 0} (contents : W → Option (List ℕ)) where
 
   -- the record gets what is recorded of an event, and then of the answers at it
   pub record RecordsEvent (service : Served) (is_taken : Bool) (e : ServerEvent) (old new : Numbered W) : Type 0 where
-    pub entry : Option Entry
-    pub event : option_map event_in entry ≡ recorded service is_taken e
-    pub says : IfSome entry (Says (served_core service) old.0)
     pub between : Recorded W
-    pub own : RecordsOne entry old.1 between
+    pub own : RecordsOwn service is_taken e old.0 old.1 between
     pub answers : RecordsAnswered service e (next_after is_taken e old.0, between) new

@@ -2,7 +2,7 @@
 ghost use Rattle.std.specs.Prelude.{◌≡◌, [], ◌∷◌, IfOk, IfSome, is_some};
 ghost use Rattle.serve_loop.specs.Events.{event_view};
 ghost use Rattle.serve_loop.specs.Law.{events_of};
-ghost use Rattle.serve_observe.specs.Recording.{RecordsAnswers, RecordsEvent};
+ghost use Rattle.serve_observe.specs.Recording.{RecordsAnswered, RecordsAnswers, RecordsEvent};
 ghost use Rattle.serve_observe.specs.Control.{Shows, after_event, after_failed_look, after_failed_opening, after_good_look, no_control};
 
 use crate::access_log::DecisionContext;
@@ -12,7 +12,6 @@ use crate::control::ControlState;
 use crate::frame::NextMessage;
 use crate::logs::Logs;
 use crate::metrics::{closed_of, count_decision, count_judgement, count_unjudged};
-use crate::record::entry_of;
 use crate::responses::JudgedResponse;
 use crate::sample::Sample;
 use crate::status::{note_down, note_judgement, note_up};
@@ -161,6 +160,31 @@ impl<'r, R: Clock, F: LogFiles + Drop> Observers<'r, R, F> {
         self.admin.metrics.accepted();
         if outcome.is_some() {
             self.admin.metrics.opened();
+        }
+    }
+
+    // Counts and logs an event. The record has the bytes of a connection here; bytes of the update stream took so many
+    // microseconds. The requests of a front's clients are recorded.
+    fn note(
+        &mut self,
+        event: &Event<'_, Conn>,
+        outcome: Option<Outcome>,
+        record: Option<RecordPosition>,
+        service: &Served<'_>,
+        micros: u64,
+    )
+        ensures same { is_some self.new.logs.recorder ≡ is_some self.old.logs.recorder }
+        ensures records { IfSome self.old.logs.recorder (λ old. IfSome self.new.logs.recorder (λ new. RecordsAnswered F.File.contents service.now (event_view event.now)
+            (self.old.connections.next, (old.connections.items, old.open_files)) (self.new.connections.next, (new.connections.items, new.open_files)))) }
+    {
+        match *event {
+            Event::Accepted(_, _) => self.accepted(outcome),
+            Event::Received(Stream::Place(k), _) => self.received(k, record, service),
+            Event::Closed(Stream::Place(k), reason) => self.closed(k, reason),
+            Event::Connected => self.connected(outcome),
+            Event::Received(Stream::Updates, bytes) => self.fed(bytes, outcome, service, micros),
+            Event::Closed(Stream::Updates, reason) => self.lost(loss_of(reason, self.end)),
+            Event::Drain => self.admin.status.drains = true,
         }
     }
 
@@ -343,19 +367,8 @@ impl<'m, 'r, R: Clock, F: LogFiles + Drop> Observer<Conn, Served<'m>> for Observ
         control.see(event, outcome.is_some());
         let passed = self.passed(event, now);
         let number = self.number(event, outcome);
-        let record = match entry_of(event, outcome, number, service) {
-            Some(entry) => self.record(&entry),
-            None => None,
-        };
-        match *event {
-            Event::Accepted(_, _) => self.accepted(outcome),
-            Event::Received(Stream::Place(k), _) => self.received(k, record, service),
-            Event::Closed(Stream::Place(k), reason) => self.closed(k, reason),
-            Event::Connected => self.connected(outcome),
-            Event::Received(Stream::Updates, bytes) => self.fed(bytes, outcome, service, passed),
-            Event::Closed(Stream::Updates, reason) => self.lost(loss_of(reason, self.end)),
-            Event::Drain => self.admin.status.drains = true,
-        }
+        let record = self.record_event(event, outcome, number, service);
+        self.note(event, outcome, record, service, passed);
         self.look(event);
         self.set_control(control);
         self.trace = trace;

@@ -3,7 +3,7 @@ ghost use Rattle.std.specs.Prelude.{◌≡◌, ◌-◌, Some, IfSome, length, is
 ghost use Rattle.std.specs.String.{string_bytes};
 ghost use Rattle.serve_core.specs.Served.{served_core};
 ghost use Rattle.serve_loop.specs.Events.{event_view};
-ghost use Rattle.serve_observe.specs.Entries.{Says, client_events, core_event, event_in, is_closing, is_of_place, number_in, recorded};
+ghost use Rattle.serve_observe.specs.Entries.{Says, core_event, event_in, is_closing, is_of_place, recorded};
 ghost use Rattle.serve_observe.specs.Recording.{Records};
 ghost use Rattle.serve_log.specs.Recording.{Feeds};
 

@@ -1,16 +1,16 @@
 //! How what happens is recorded: each event of the core, and the requests of fronts' clients.
 ghost use Rattle.std.specs.Prelude.{◌≡◌, IfSome, is_some};
 ghost use Rattle.serve_loop.specs.Events.{event_view};
-ghost use Rattle.serve_observe.specs.Recording.{Records, RecordsClient, RecordsClients, RecordsRequest, next_after};
+ghost use Rattle.serve_observe.specs.Recording.{Records, RecordsAnswer, RecordsClient, RecordsClients, RecordsOwn, RecordsRequest, next_after};
 
 use crate::access_log::DecisionContext;
 use crate::clocks::unix_millis;
 use crate::metrics::count_decision;
 use crate::observers::Observers;
-use crate::record::{Entry, record};
+use crate::record::{Entry, entry_of, record};
 use ads::Client;
 use attributes::Conn;
-use serve_core::{ClientRequest, FrontAnswer, MappedService};
+use serve_core::{ClientRequest, FrontAnswer, MappedService, Served};
 use serve_log::{LogFiles, RecordPosition};
 use serve_loop::{Event, Outcome};
 use std::rt::Clock;
@@ -43,6 +43,26 @@ impl<'r, R: Clock, F: LogFiles + Drop> Observers<'r, R, F> {
         }
     }
 
+    /// Records an event, whose connection has this number if it opens one. Returns where the record has the bytes of a
+    /// connection.
+    pub(crate) fn record_event(
+        &mut self,
+        event: &Event<'_, Conn>,
+        outcome: Option<Outcome>,
+        number: u64,
+        service: &Served<'_>,
+    ) -> Option<RecordPosition>
+        ensures same { is_some self.new.logs.recorder ≡ is_some self.old.logs.recorder }
+        ensures records { IfSome self.old.logs.recorder (λ old. IfSome self.new.logs.recorder (λ new. RecordsOwn F.File.contents service.now
+            (is_some outcome) (event_view event.now) number (old.connections.items, old.open_files) (new.connections.items, new.open_files))) }
+        ensures numbers { self.new.connections ≡ self.old.connections }
+    {
+        match entry_of(event, outcome, number, service) {
+            Some(entry) => self.record(&entry),
+            None => None,
+        }
+    }
+
     // Records the request of a client, which is a connection of its own in this place, with this number.
     fn record_client(
         &mut self,
@@ -68,12 +88,19 @@ impl<'r, R: Clock, F: LogFiles + Drop> Observers<'r, R, F> {
             (self.old.connections.next, (old.connections.items, old.open_files)) (self.new.connections.next, (new.connections.items, new.open_files)))) }
     {
         for answer in mapped.answers() {
-            match answer {
-                FrontAnswer::Judged(request) => {
-                    self.answered_client(k, request, mapped.core().client());
-                }
-                FrontAnswer::Unjudged(unjudged, reply) => self.unjudged(k, unjudged, reply),
-            }
+            self.answered_request(k, answer, mapped.core().client());
+        }
+    }
+
+    // A request of a front proxy was answered.
+    fn answered_request(&mut self, k: usize, answer: &FrontAnswer, client: &Client)
+        ensures same { is_some self.new.logs.recorder ≡ is_some self.old.logs.recorder }
+        ensures records { IfSome self.old.logs.recorder (λ old. IfSome self.new.logs.recorder (λ new. RecordsAnswer F.File.contents k answer.now
+            (self.old.connections.next, (old.connections.items, old.open_files)) (self.new.connections.next, (new.connections.items, new.open_files)))) }
+    {
+        match answer {
+            FrontAnswer::Judged(request) => self.answered_client(k, request, client),
+            FrontAnswer::Unjudged(unjudged, reply) => self.unjudged(k, unjudged, reply),
         }
     }
 
