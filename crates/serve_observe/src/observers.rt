@@ -46,7 +46,7 @@ pub struct Observers<'r, R: Clock, F: LogFiles + Drop> {
     pub logs: Logs<F>,
     pub(crate) connections: Connections,
     control: ControlState,
-    // the decisions whose steps are counted
+    /// The decisions whose steps are counted.
     pub(crate) sample: Sample,
     // why the last bytes of the update stream end it
     end: Option<BytesEnd>,
@@ -237,7 +237,7 @@ impl<'r, R: Clock, F: LogFiles + Drop> Observers<'r, R, F> {
         }
     }
 
-    // A request of a front proxy was answered without being judged.
+    /// A request of a front proxy was answered without being judged.
     pub(crate) fn unjudged(&mut self, k: usize, unjudged: &Unjudged, reply: &Reply)
         ensures record { self.new.logs.recorder ≡ self.old.logs.recorder }
         ensures numbers { self.new.connections.next ≡ self.old.connections.next }

@@ -1,6 +1,5 @@
 //! What the record is given of each event: the events of the core, in order.
-ghost use Rattle.std.specs.Prelude.{◌≡◌, ◌-◌, Some, IfSome, length, is_some, map, option_copied, option_map, slice_get};
-ghost use Rattle.std.specs.String.{string_bytes};
+ghost use Rattle.std.specs.Prelude.{◌≡◌, ◌-◌, Some, IfSome, length, is_some, option_copied, option_map, slice_get};
 ghost use Rattle.serve_core.specs.Served.{served_core};
 ghost use Rattle.serve_loop.specs.Events.{event_view};
 ghost use Rattle.serve_observe.specs.Entries.{Says, core_event, event_in, is_closing, is_of_place, recorded};
