@@ -66,7 +66,7 @@ module _ {W : Type 0} (contents : W → Option (List ℕ)) where
     pub says : IfSome entry (Says (served_core service) n)
     pub records : RecordsOne entry old new
 
-  -- the record gets a client's request as a connection of its own: it opens in this place, with this number and the
+  -- the record gets a client's request as a connection of its own. It opens in this place, with this number and the
   -- facts, delivers the head and is closed
   pub record RecordsRequest (k n : ℕ) (request : ClientRequest) (old new : Recorded W) : Type 0 where
     pub opened : Recorded W
