@@ -3,3 +3,4 @@ pub mod Places
 pub mod Numbers
 mod MinutesApart
 mod GapLemmas
+pub mod RecordLemmas

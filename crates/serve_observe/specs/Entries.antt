@@ -1,11 +1,11 @@
 -- What the record is given of each event (this project's own; docs/OPERATING.md, "The record").
-use Rattle.std.specs.Prelude.{◌≡◌, ◌-◌, ◌↔◌, ◌||◌, ℕ, Bool, true, false, List, [], ◌∷◌, Option, None, Some, IsTrue, if◌then◌else◌, length, option_copied, option_map, slice_get}
+use Rattle.std.specs.Prelude.{◌≡◌, ◌-◌, ◌↔◌, ◌||◌, ℕ, Bool, true, false, Option, None, Some, IsTrue, if◌then◌else◌, length, option_copied, option_map, slice_get}
 use Rattle.proxy_core.specs.Step.{front_at}
 use Rattle.serve_loop.specs.History.{accepted, connected, received, closed, drain}
 use Rattle.serve_loop.specs.declared.stream.Stream.TheVariants.{Place, Updates}
 use Rattle.rbac_serve.specs.Tables.{IsFresh}
 use Rattle.rbac_serve.specs.Workers.{worker_view}
-use Rattle.serve_core.specs.Turns.{ServerEvent, ServerFacts}
+use Rattle.serve_core.specs.Turns.{ServerEvent}
 use Rattle.serve_core.specs.declared.served.Served.{Served}
 use Rattle.serve_core.specs.declared.served.Served.TheVariants.{AsSent, Mapped}
 use Rattle.serve_core.specs.declared.worker_service.WorkerService.{WorkerService}
@@ -20,15 +20,6 @@ event_in (entries.Closed k) = closed (Place k)
 event_in entries.Up = connected
 event_in (entries.Fed bytes outcome) = received Updates bytes.now
 event_in entries.Lost = closed Updates
-
--- the number of the connection that an entry opens
-abbrev pub number_in : Entry → Option ℕ
-number_in (entries.Opened k number conn) = Some number
-number_in (entries.Received k bytes is_fresh) = None
-number_in (entries.Closed k) = None
-number_in entries.Up = None
-number_in (entries.Fed bytes outcome) = None
-number_in entries.Lost = None
 
 -- the event closes a stream
 abbrev pub is_closing : ServerEvent → Bool
@@ -64,10 +55,6 @@ event_by (Mapped fronts) e = if is_of_place e then None else core_event e
 -- what is recorded of an event of the service; nothing of an opening or of bytes at which memory ran out
 abbrev pub recorded : Served → Bool → ServerEvent → Option ServerEvent
 recorded service is_taken e = if is_taken || is_closing e then event_by service e else None
-
--- what is recorded of a client's request in a place, with these facts and this head: a connection of its own
-abbrev pub client_events : ℕ → ServerFacts → List ℕ → List ServerEvent
-client_events k conn head = accepted k conn ∷ received (Place k) head ∷ closed (Place k) ∷ []
 
 -- what an entry says beside its event: the number of a connection that opens, or whether the core has it as fresh. If
 -- bytes of the update stream complete a response, the entry says how the core judged it

@@ -40,6 +40,13 @@ impl Connections {
         })
     }
 
+    /// The number of the next connection.
+    pub(crate) fn next_number(&self) -> u64
+        ensures { result ≡ self.now.next }
+    {
+        self.next
+    }
+
     /// A connection with the next number and these facts. It is in no place.
     pub(crate) fn number(&mut self, conn: &Conn, is_unfit: bool) -> Connection
         ensures number { (result.number ≡ self.old.next) × (result.is_unfit ≡ is_unfit) }

@@ -12,6 +12,7 @@ mod logs;
 mod metrics;
 mod observers;
 mod record;
+mod recording;
 mod responses;
 mod sample;
 mod status;

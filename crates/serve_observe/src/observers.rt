@@ -2,7 +2,7 @@
 ghost use Rattle.std.specs.Prelude.{◌≡◌, [], ◌∷◌, IfOk, IfSome, is_some};
 ghost use Rattle.serve_loop.specs.Events.{event_view};
 ghost use Rattle.serve_loop.specs.Law.{events_of};
-ghost use Rattle.serve_observe.specs.Recording.{Records};
+ghost use Rattle.serve_observe.specs.Recording.{RecordsAnswered, RecordsAnswers, RecordsEvent};
 ghost use Rattle.serve_observe.specs.Control.{Shows, after_event, after_failed_look, after_failed_opening, after_good_look, no_control};
 
 use crate::access_log::DecisionContext;
@@ -12,7 +12,6 @@ use crate::control::ControlState;
 use crate::frame::NextMessage;
 use crate::logs::Logs;
 use crate::metrics::{closed_of, count_decision, count_judgement, count_unjudged};
-use crate::record::{Entry, client_entries, entry_of, record};
 use crate::responses::JudgedResponse;
 use crate::sample::Sample;
 use crate::status::{note_down, note_judgement, note_up};
@@ -25,7 +24,7 @@ use attributes::Conn;
 use http_front::Reply;
 use proxy_core::AnsweredAsk;
 use serve_admin::Admin;
-use serve_core::{ClientRequest, FrontAnswer, MappedService, Served, Unjudged, WorkerService};
+use serve_core::{Served, Unjudged, WorkerService};
 use serve_log::{LogFiles, RecordPosition, Update};
 use serve_loop::{CloseReason, Event, Failed, Observer, Outcome, Stream};
 use serve_trace::{Note, Trace};
@@ -39,16 +38,16 @@ const STEPS_SAMPLE: u64 = 64;
 /// What sees each event of a server: the counters and the status, the logs, and the record.
 #[derive(Drop)]
 pub struct Observers<'r, R: Clock, F: LogFiles + Drop> {
-    alloc: Global,
-    rt: &'r R,
+    pub(crate) alloc: Global,
+    pub(crate) rt: &'r R,
     /// The counters and the status.
     pub admin: Admin,
     /// The logs and the record.
     pub logs: Logs<F>,
-    connections: Connections,
+    pub(crate) connections: Connections,
     control: ControlState,
-    // the decisions whose steps are counted
-    sample: Sample,
+    /// The decisions whose steps are counted.
+    pub(crate) sample: Sample,
     // why the last bytes of the update stream end it
     end: Option<BytesEnd>,
     next_message: NextMessage,
@@ -144,6 +143,8 @@ impl<'r, R: Clock, F: LogFiles + Drop> Observers<'r, R, F> {
         ensures trace { self.new.trace ≡ self.old.trace }
         ensures control { self.new.control ≡ control }
         ensures shown { Shows control self.new.admin.metrics }
+        ensures record { self.new.logs.recorder ≡ self.old.logs.recorder }
+        ensures numbers { self.new.connections.next ≡ self.old.connections.next }
     {
         self.admin
             .metrics
@@ -151,38 +152,48 @@ impl<'r, R: Clock, F: LogFiles + Drop> Observers<'r, R, F> {
         self.control = control;
     }
 
-    // Numbers the connection that an event opens. Without an outcome memory ran out, and the connection has no number.
-    fn number(&mut self, event: &Event<'_, Conn>, outcome: Option<Outcome>) -> u64 {
-        match (event, outcome) {
-            (Event::Accepted(k, conn), Some(outcome)) => {
-                self.connections.open(*k, conn, outcome.closes)
-            }
-            _ => 0,
-        }
-    }
-
-    // Gives an entry to the record, if there is one. Returns where it has the bytes of a connection.
-    fn record(&mut self, entry: &Entry<'_, '_>) -> Option<RecordPosition>
-        ensures same { is_some self.new.logs.recorder ≡ is_some self.old.logs.recorder }
-        ensures records { IfSome self.old.logs.recorder (λ old. IfSome self.new.logs.recorder (λ new. Records F.File.contents
-            entry.now old.connections.items new.connections.items old.open_files new.open_files)) }
-    {
-        match &mut self.logs.recorder {
-            Some(recorder) => record(self.alloc, recorder, entry),
-            None => None,
-        }
-    }
-
     // A connection was accepted.
-    fn accepted(&mut self, outcome: Option<Outcome>) {
+    fn accepted(&mut self, outcome: Option<Outcome>)
+        ensures record { self.new.logs.recorder ≡ self.old.logs.recorder }
+        ensures numbers { self.new.connections.next ≡ self.old.connections.next }
+    {
         self.admin.metrics.accepted();
         if outcome.is_some() {
             self.admin.metrics.opened();
         }
     }
 
+    // Counts and logs an event. The record has the bytes of a connection here; bytes of the update stream took so many
+    // microseconds. The requests of a front's clients are recorded.
+    fn note(
+        &mut self,
+        event: &Event<'_, Conn>,
+        outcome: Option<Outcome>,
+        record: Option<RecordPosition>,
+        service: &Served<'_>,
+        micros: u64,
+    )
+        ensures same { is_some self.new.logs.recorder ≡ is_some self.old.logs.recorder }
+        ensures records { IfSome self.old.logs.recorder (λ old. IfSome self.new.logs.recorder (λ new. RecordsAnswered F.File.contents service.now (event_view event.now)
+            (self.old.connections.next, (old.connections.items, old.open_files)) (self.new.connections.next, (new.connections.items, new.open_files)))) }
+    {
+        match *event {
+            Event::Accepted(_, _) => self.accepted(outcome),
+            Event::Received(Stream::Place(k), _) => self.received(k, record, service),
+            Event::Closed(Stream::Place(k), reason) => self.closed(k, reason),
+            Event::Connected => self.connected(outcome),
+            Event::Received(Stream::Updates, bytes) => self.fed(bytes, outcome, service, micros),
+            Event::Closed(Stream::Updates, reason) => self.lost(loss_of(reason, self.end)),
+            Event::Drain => self.admin.status.drains = true,
+        }
+    }
+
     // The connection in a place delivered bytes, which the record has here.
-    fn received(&mut self, k: usize, record: Option<RecordPosition>, service: &Served<'_>) {
+    fn received(&mut self, k: usize, record: Option<RecordPosition>, service: &Served<'_>)
+        ensures same { is_some self.new.logs.recorder ≡ is_some self.old.logs.recorder }
+        ensures records { IfSome self.old.logs.recorder (λ old. IfSome self.new.logs.recorder (λ new. RecordsAnswers F.File.contents k service.now
+            (self.old.connections.next, (old.connections.items, old.open_files)) (self.new.connections.next, (new.connections.items, new.open_files)))) }
+    {
         match service {
             Served::AsSent(worker) => self.answered(k, record, worker),
             Served::Mapped(mapped) => self.answered_front(k, mapped),
@@ -190,7 +201,10 @@ impl<'r, R: Clock, F: LogFiles + Drop> Observers<'r, R, F> {
     }
 
     // Requests were answered as they were sent.
-    fn answered(&mut self, k: usize, record: Option<RecordPosition>, worker: &WorkerService) {
+    fn answered(&mut self, k: usize, record: Option<RecordPosition>, worker: &WorkerService)
+        ensures record { self.new.logs.recorder ≡ self.old.logs.recorder }
+        ensures numbers { self.new.connections.next ≡ self.old.connections.next }
+    {
         for answered_ask in &worker.last().answered_asks {
             let metrics = &mut self.admin.metrics;
             count_decision(metrics, &mut self.sample, answered_ask, worker.client());
@@ -205,7 +219,10 @@ impl<'r, R: Clock, F: LogFiles + Drop> Observers<'r, R, F> {
         record: &Option<RecordPosition>,
         answered_ask: &AnsweredAsk,
         client: &Client,
-    ) {
+    )
+        ensures record { self.new.logs.recorder ≡ self.old.logs.recorder }
+        ensures numbers { self.new.connections.next ≡ self.old.connections.next }
+    {
         if let (Some(accesses), Some(connection)) = (
             &mut self.logs.accesses,
             self.connections.get(k),
@@ -220,47 +237,11 @@ impl<'r, R: Clock, F: LogFiles + Drop> Observers<'r, R, F> {
         }
     }
 
-    // Requests of a front proxy were answered.
-    fn answered_front(&mut self, k: usize, mapped: &MappedService<'_>) {
-        for answer in mapped.answers() {
-            match answer {
-                FrontAnswer::Judged(request) => {
-                    self.answered_client(k, request, mapped.core().client());
-                }
-                FrontAnswer::Unjudged(unjudged, reply) => self.unjudged(k, unjudged, reply),
-            }
-        }
-    }
-
-    // The request of a client was judged, as the one of a connection of its own.
-    fn answered_client(&mut self, k: usize, request: &ClientRequest, client: &Client) {
-        let connection = self.connections.number(&request.conn, false);
-        let mut record = None;
-        for entry in &client_entries(k, connection.number, request) {
-            record = self.record(entry).or(record);
-        }
-        let answered_ask = &request.answered_ask;
-        count_decision(
-            &mut self.admin.metrics,
-            &mut self.sample,
-            answered_ask,
-            client,
-        );
-        if let Some(accesses) = &mut self.logs.accesses {
-            accesses.log_decision(
-                answered_ask,
-                &DecisionContext {
-                    time: unix_millis(self.rt),
-                    connection: &connection,
-                    client,
-                    record: &record,
-                },
-            );
-        }
-    }
-
-    // A request of a front proxy was answered without being judged.
-    fn unjudged(&mut self, k: usize, unjudged: &Unjudged, reply: &Reply) {
+    /// A request of a front proxy was answered without being judged.
+    pub(crate) fn unjudged(&mut self, k: usize, unjudged: &Unjudged, reply: &Reply)
+        ensures record { self.new.logs.recorder ≡ self.old.logs.recorder }
+        ensures numbers { self.new.connections.next ≡ self.old.connections.next }
+    {
         count_unjudged(&mut self.admin.metrics, unjudged.case);
         if let (Some(accesses), Some(connection)) = (
             &mut self.logs.accesses,
@@ -271,14 +252,20 @@ impl<'r, R: Clock, F: LogFiles + Drop> Observers<'r, R, F> {
     }
 
     // The connection in a place was closed.
-    fn closed(&mut self, k: usize, reason: CloseReason) {
+    fn closed(&mut self, k: usize, reason: CloseReason)
+        ensures record { self.new.logs.recorder ≡ self.old.logs.recorder }
+        ensures numbers { self.new.connections.next ≡ self.old.connections.next }
+    {
         if let Some(connection) = self.connections.close(k) {
             self.admin.metrics.closed(closed_of(&connection, reason));
         }
     }
 
     // The update stream was connected. Without an outcome memory ran out, and it is closed.
-    fn connected(&mut self, outcome: Option<Outcome>) {
+    fn connected(&mut self, outcome: Option<Outcome>)
+        ensures record { self.new.logs.recorder ≡ self.old.logs.recorder }
+        ensures numbers { self.new.connections.next ≡ self.old.connections.next }
+    {
         self.end = None;
         self.next_message.clear();
         if outcome.is_none() {
@@ -290,7 +277,10 @@ impl<'r, R: Clock, F: LogFiles + Drop> Observers<'r, R, F> {
     }
 
     // The update stream delivered bytes. Judging a response that they complete took so many microseconds.
-    fn fed(&mut self, bytes: &[u8], outcome: Option<Outcome>, service: &Served<'_>, micros: u64) {
+    fn fed(&mut self, bytes: &[u8], outcome: Option<Outcome>, service: &Served<'_>, micros: u64)
+        ensures record { self.new.logs.recorder ≡ self.old.logs.recorder }
+        ensures numbers { self.new.connections.next ≡ self.old.connections.next }
+    {
         let last = service.core().last();
         self.end = bytes_end(last);
         self.next_message.add(bytes);
@@ -324,14 +314,20 @@ impl<'r, R: Clock, F: LogFiles + Drop> Observers<'r, R, F> {
     }
 
     // Looks at the clock after an event of the update stream.
-    fn look(&mut self, event: &Event<'_, Conn>) {
+    fn look(&mut self, event: &Event<'_, Conn>)
+        ensures record { self.new.logs.recorder ≡ self.old.logs.recorder }
+        ensures numbers { self.new.connections.next ≡ self.old.connections.next }
+    {
         if let Event::Connected | Event::Received(Stream::Updates, _) = event {
             self.looked = micros(self.rt);
         }
     }
 
     // The update stream was lost.
-    fn lost(&mut self, loss: Loss) {
+    fn lost(&mut self, loss: Loss)
+        ensures record { self.new.logs.recorder ≡ self.old.logs.recorder }
+        ensures numbers { self.new.connections.next ≡ self.old.connections.next }
+    {
         let (alloc, time) = (self.alloc, unix_millis(self.rt));
         if let Ok(why) = words_of(alloc, loss, self.next_message.message()) {
             note_down(alloc, &mut self.admin.status, time, why.as_str());
@@ -362,25 +358,17 @@ impl<'m, 'r, R: Clock, F: LogFiles + Drop> Observer<Conn, Served<'m>> for Observ
         ensures seen { events_of self.new.trace.turns ≡ event_view event.now ∷ events_of self.old.trace.turns }
         ensures control { self.new.control ≡ after_event (event_view event.now) (is_some outcome) self.old.control }
         ensures shown { Shows self.new.control self.new.admin.metrics }
+        ensures same { is_some self.new.logs.recorder ≡ is_some self.old.logs.recorder }
+        ensures records { IfSome self.old.logs.recorder (λ old. IfSome self.new.logs.recorder (λ new. RecordsEvent F.File.contents service.now (is_some outcome) (event_view event.now)
+            (self.old.connections.next, (old.connections.items, old.open_files)) (self.new.connections.next, (new.connections.items, new.open_files)))) }
     {
         let trace = self.trace.then(&Note::Took(event));
         let mut control = self.control;
         control.see(event, outcome.is_some());
         let passed = self.passed(event, now);
         let number = self.number(event, outcome);
-        let record = match entry_of(event, outcome, number, service) {
-            Some(entry) => self.record(&entry),
-            None => None,
-        };
-        match *event {
-            Event::Accepted(_, _) => self.accepted(outcome),
-            Event::Received(Stream::Place(k), _) => self.received(k, record, service),
-            Event::Closed(Stream::Place(k), reason) => self.closed(k, reason),
-            Event::Connected => self.connected(outcome),
-            Event::Received(Stream::Updates, bytes) => self.fed(bytes, outcome, service, passed),
-            Event::Closed(Stream::Updates, reason) => self.lost(loss_of(reason, self.end)),
-            Event::Drain => self.admin.status.drains = true,
-        }
+        let record = self.record_event(event, outcome, number, service);
+        self.note(event, outcome, record, service, passed);
         self.look(event);
         self.set_control(control);
         self.trace = trace;

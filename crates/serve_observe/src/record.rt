@@ -1,16 +1,15 @@
 //! What the record is given of each event: the events of the core, in order.
-ghost use Rattle.std.specs.Prelude.{◌≡◌, ◌-◌, Some, IfSome, length, is_some, map, option_copied, option_map, slice_get};
-ghost use Rattle.std.specs.String.{string_bytes};
+ghost use Rattle.std.specs.Prelude.{◌≡◌, ◌-◌, Some, IfSome, length, is_some, option_copied, option_map, slice_get};
 ghost use Rattle.serve_core.specs.Served.{served_core};
 ghost use Rattle.serve_loop.specs.Events.{event_view};
-ghost use Rattle.serve_observe.specs.Entries.{Says, client_events, core_event, event_in, is_closing, is_of_place, number_in, recorded};
+ghost use Rattle.serve_observe.specs.Entries.{Says, core_event, event_in, is_closing, is_of_place, recorded};
 ghost use Rattle.serve_observe.specs.Recording.{Records};
 ghost use Rattle.serve_log.specs.Recording.{Feeds};
 
 use crate::responses::places_of;
 use ads::{Judgement, ResponseOutcome};
 use attributes::Conn;
-use serve_core::{ClientRequest, Served, WorkerService};
+use serve_core::{Served, WorkerService};
 use serve_log::{LogFiles, RecordPosition, Recorder, UpdateBytes};
 use serve_loop::{Event, Outcome, Stream};
 use std::alloc::{AllocError, Global};
@@ -105,19 +104,6 @@ fn last_outcome(judgements: &[Judgement]) -> Option<&ResponseOutcome>
         Some(judgement) => Some(&judgement.outcome),
         None => None,
     }
-}
-
-/// What the record is given of the request of a client, which is a connection of its own in this place, with this
-/// number.
-pub(crate) fn client_entries(k: usize, number: u64, request: &ClientRequest) -> [Entry<'_, '_>; 3]
-    ensures events { map event_in result ≡ client_events k request.now.conn (string_bytes request.now.head) }
-    ensures number { option_map number_in (slice_get result 0) ≡ Some (Some number) }
-{
-    [
-        Entry::Opened(k, number, &request.conn),
-        Entry::Received(k, request.head.as_bytes(), true),
-        Entry::Closed(k),
-    ]
 }
 
 /// Gives an entry to the record. Returns where the record has the bytes of a connection; none if it has not.
