@@ -37,7 +37,7 @@ pub run_fails : (Has : LimitsValue → HeadFault → Type 0) (IsOpen IsOut : Typ
 run_fails Has IsOpen IsOut facts a r answer RunError.Memory is within never = refl
 run_fails Has IsOpen IsOut facts a r answer RunError.OutOfSteps is within never = λ filter admitted. never filter admitted within is
 
-allowed_of : (allowed : Bool) (matched : Option ℕ) → (decision_with allowed matched).is_allowed ≡ allowed
+pub allowed_of : (allowed : Bool) (matched : Option ℕ) → (decision_with allowed matched).is_allowed ≡ allowed
 allowed_of allowed (Some k) = refl
 allowed_of allowed None = refl
 
@@ -46,7 +46,7 @@ matched_of allowed (Some k) = refl
 matched_of allowed None = refl
 
 -- the decision of an answer
-decision_is : (Asks : Asking) (a : Admitted) (v : Verdict) → IsAnswer Asks a v → IsDecision Asks a (decision_of v)
+pub decision_is : (Asks : Asking) (a : Admitted) (v : Verdict) → IsAnswer Asks a v → IsDecision Asks a (decision_of v)
 decision_is Asks a v found =
     (found.0, found.1, rw (allowed_of v.allowed v.matched, matched_of v.allowed v.matched) found.2)
 
