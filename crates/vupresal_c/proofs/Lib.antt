@@ -6,3 +6,4 @@ pub mod Texts
 pub mod MadeOnce
 pub mod MadeLaws
 pub mod Trying
+pub mod Naming

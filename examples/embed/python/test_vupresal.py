@@ -255,6 +255,14 @@ class Filters(unittest.TestCase):
                 wrong()
             self.assertEqual(raised.exception.status, status)
 
+    def test_made_requests_keep_ignored_fields(self) -> None:
+        lines = [*HOST, ("cookie", "c" * 5000)]
+        with Filter(example("any_any.bin"), ignore=["cookie"]) as one:
+            self.assertTrue(one.decide("GET", "/", lines).allowed)
+        with self.assertRaises(Error) as raised:
+            Connection().request("GET", "/", lines)
+        self.assertEqual(raised.exception.status, 431)
+
     def test_sets(self) -> None:
         filters = [Filter(example(name)) for name in ("any_any.bin", "condition.bin")]
         one, connection = FilterSet(filters), Connection()

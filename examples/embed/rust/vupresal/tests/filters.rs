@@ -265,6 +265,16 @@ fn requests_that_are_made_once() {
 }
 
 #[test]
+fn made_requests_keep_ignored_fields() {
+    let long = "c".repeat(5000);
+    let lines = [HOST[0], ("cookie", long.as_str())];
+    let request = Request::get("/", &lines);
+    assert!(ignoring(&example("any_any.bin"), &["cookie"]).decide(&request, &Facts::default()).expect("a decision").allowed);
+    let mut connection = Connection::new(&Facts::default()).expect("a connection");
+    assert_eq!(connection.request(&request).err(), Some(Error::OutsideLimits));
+}
+
+#[test]
 fn sets() {
     let mut connection = Connection::new(&Facts::default()).expect("a connection");
     let mut set = FilterSet::new();
