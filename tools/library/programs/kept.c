@@ -142,7 +142,7 @@ static void nothing_made(void) {
 /* A filter's own limits count, as by the parts. The text of HTTP/2 has 6 bytes, but its head's has 8. */
 static void limits_of_filters(void) {
   const vupresal_bounds bounds[] = {{64, 128, 4096, 2, 4096, 1024, 0}, {64, 128, 4096, 3, 4096, 7, 0}, {3, 128, 4096, 3, 4096, 8, 0},
-                                    {4, 10, 1, 3, 1, 8, 0}};
+                                    {4, 10, 4, 3, 1, 8, 0}};
   vupresal_connection connection = connected();
   for (uint64_t protocol = 0; protocol < 4; protocol++)
     for (size_t at = 0; at < sizeof bounds / sizeof *bounds; at++) {
