@@ -1,5 +1,5 @@
 -- A request that was made once: what follows for other limits than those that it was made for.
-use Rattle.std.proofs.Common.{◌≡◌, ◌∙◌, ◌≤◌, ◌<◌, ◌⊎◌, ℕ, Bool, true, false, List, [], ◌∷◌, Option, Some, None, All, IsTrue, ¬, ap, arith, inl, inr, length, nat_lt, refl, subst, sym, ◌||◌}
+use Rattle.std.proofs.Common.{◌≡◌, ◌∙◌, ◌≤◌, ◌<◌, ◌⊎◌, ℕ, Bool, true, false, List, [], ◌∷◌, Option, Some, None, All, IsTrue, ap, arith, inl, inr, length, nat_lt, refl, subst, sym, ◌||◌}
 use Rattle.std.proofs.lemmas.Bool.{lt-ltb, ltb-true, or_cases, or_left, or_right}
 use Rattle.std.proofs.lemmas.List.Elements.{All-weaker}
 use Rattle.std.specs.FinMap.{entries}
@@ -51,7 +51,7 @@ module _ (head : List ℕ) (from to : LimitsValue) (facts : Facts) (r : RequestV
   }
 
   -- and has a fault there, if it is not
-  pub head_outside : ¬ (InLimits r to) → HasFault head to facts OutsideLimits
+  pub head_outside : (InLimits r to → ⊥) → HasFault head to facts OutsideLimits
   head_outside out = HasFault.broken asks.head asks.rest asks.starts
       (AskFault.outside (λ within. out (subst (λ (q : RequestValue). InLimits q to) (sym asks.request) within)) refl)
 
@@ -108,7 +108,7 @@ module _ (p : PartsValue) (from to : LimitsValue) (facts : Facts) (r : RequestVa
       }
 
   -- and have a fault there, if it is not
-  pub parts_outside : ¬ (FitsAsHead r to) → PartsFault p to facts OutsideLimits
+  pub parts_outside : (FitsAsHead r to → ⊥) → PartsFault p to facts OutsideLimits
   parts_outside out = PartsFault.spelled asks.shape (head_outside (parts_text p) from to facts asks.spelled asks.asks
       (λ within. out (subst (λ (q : RequestValue). FitsAsHead q to) (sym asks.request)
       (within_spelled p.protocol asks.spelled to version_of_parts within))))

@@ -1,5 +1,5 @@
 -- Why a request is not made, in numbers (this project's own): the rule that it breaks, and the limit that it exceeds.
-use Rattle.std.specs.Prelude.{◌≡◌, ◌<◌, ◌+◌, ¬, ⊤, ℕ, Bool, IsSomeAnd, IsTrue, List, Option, length, nat_lt}
+use Rattle.std.specs.Prelude.{◌≡◌, ◌<◌, ◌+◌, ⊤, ℕ, Bool, IsSomeAnd, IsTrue, List, Option, length, nat_lt}
 use Rattle.std.specs.List.{list_any}
 use Rattle.attributes.specs.Conn.{Facts}
 use Rattle.attributes.specs.Headers.{Entry}
@@ -69,7 +69,7 @@ Exceeds l p facts Limit.Name = IsTrue (has_long_name l.name p.fields)
 Exceeds l p facts Limit.Value = ⊤
 Exceeds l p facts Limit.Method = l.method < length p.method
 Exceeds l p facts Limit.Target = l.target < length p.target
-Exceeds l p facts Limit.Text = ¬ (FactsInLimits facts l)
+Exceeds l p facts Limit.Text = FactsInLimits facts l → ⊥
 
 -- a limit of this number is exceeded on the connection of a handle
 abbrev pub NamesLimit : Option Facts → PartsValue → ℕ → Type 0

@@ -1,5 +1,5 @@
 -- Decisions on requests that were made before (this project's own): the verdict, and why there is none.
-use Rattle.std.specs.Prelude.{◌≡◌, ◌≤◌, ¬, ℕ, Option, IsSomeAnd}
+use Rattle.std.specs.Prelude.{◌≡◌, ◌≤◌, ℕ, Option, IsSomeAnd}
 use Rattle.attributes.specs.Limits.{InLimits, LimitsValue}
 use Rattle.attributes.specs.Request.{RequestValue}
 use Rattle.http_front.specs.declared.fault.HeadFault.TheVariants.{OutsideLimits}
@@ -26,7 +26,7 @@ RequestFailsFor a r (Refused refusal) = refusal ≡ Refusal.Memory
 RequestFailsFor a r OutOfSteps = WasNeverAdmitted a
 RequestFailsFor a r BadFacts = ⊥
 RequestFailsFor a r Unfinished = ⊥
-RequestFailsFor a r (Head fault) = (fault ≡ OutsideLimits) × ¬ (FitsAsHead r (limits_view a))
+RequestFailsFor a r (Head fault) = (fault ≡ OutsideLimits) × (FitsAsHead r (limits_view a) → ⊥)
 
 -- the filter has no decision on the request of a handle, with this fault; the handle may be empty
 abbrev pub HeldFailsFor : Option RequestValue → Admitted → Fault → Type 0

@@ -1,7 +1,6 @@
 //! The handle of a set of filters, in C's memory.
 
 ghost use Rattle.std.specs.Prelude.{◌≡◌, ◌≢◌, [], None, Some, MatchOption, true, false};
-ghost use Rattle.vupresal_c.specs.Handles.{chain_filters};
 
 use c_slots::{Chain, ChainSlot};
 use loose::Loose;
@@ -18,7 +17,7 @@ pub struct Set {
 }
 
 impl Set {
-    ghost use Rattle.vupresal_c.specs.Handles.{filters_in};
+    ghost use Rattle.vupresal_c.specs.Handles.{chain_filters, filters_in};
 
     /// An empty handle.
     pub(crate) fn empty() -> Set
