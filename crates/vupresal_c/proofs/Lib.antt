@@ -6,4 +6,3 @@ pub mod Texts
 pub mod MadeOnce
 pub mod MadeLaws
 pub mod Trying
-pub mod Naming
