@@ -16,6 +16,7 @@ use Rattle.rbac_policy.specs.declared.filter.Verdict.{Verdict}
 use Rattle.stack_machine.specs.declared.error.RunError.{RunError}
 use Rattle.vupresal_c.specs.Admission.{IsAdmission, budget_given}
 use Rattle.vupresal_c.specs.Decisions.{Asking, FailsFor, IsAnswer, IsDecision, decision_of, decision_with, matched_in, refused}
+use Rattle.vupresal_c.specs.Kept.{RequestFailsFor}
 use Rattle.vupresal_c.specs.Statuses.{done, of_run, status_of}
 use Rattle.vupresal_c.specs.declared.decision.Decision.{Decision}
 use Rattle.vupresal_c.specs.declared.fault.Fault.{Fault}
@@ -36,6 +37,15 @@ pub run_fails : (Has : LimitsValue → HeadFault → Type 0) (IsOpen IsOut : Typ
     → FailsFor Has IsOpen IsOut facts a (of_run e)
 run_fails Has IsOpen IsOut facts a r answer RunError.Memory is within never = refl
 run_fails Has IsOpen IsOut facts a r answer RunError.OutOfSteps is within never = λ filter admitted. never filter admitted within is
+
+-- the same on a request that was made before
+pub made_run_fails : (a : Admitted) (r : RequestValue) (answer : Result Verdict RunError) (e : RunError)
+    → answer ≡ Err e → InLimits r (limits_view a)
+    → ((filter : Filter CelChecked) → IsAdmittedAs (limits_view a) filter (filter_view a)
+    → InLimits r (limits_view a) → answer ≢ Err RunError.OutOfSteps)
+    → RequestFailsFor a r (of_run e)
+made_run_fails a r answer RunError.Memory is within never = refl
+made_run_fails a r answer RunError.OutOfSteps is within never = λ filter admitted. never filter admitted within is
 
 pub allowed_of : (allowed : Bool) (matched : Option ℕ) → (decision_with allowed matched).is_allowed ≡ allowed
 allowed_of allowed (Some k) = refl

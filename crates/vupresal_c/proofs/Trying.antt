@@ -8,7 +8,8 @@ use Rattle.rbac_policy.specs.declared.filter.Admitted.{Admitted}
 use Rattle.rbac_policy.specs.declared.filter.Verdict.{Verdict}
 use Rattle.vupresal_c.specs.Decisions.{IsAnswer, decision_of}
 use Rattle.vupresal_c.specs.Kept.{AsksForHeld, HeldFailsFor}
-use Rattle.vupresal_c.specs.Sets.{IsSetAnswer, IsTried, LetsThrough, SetFails}
+use Rattle.vupresal_c.specs.Sets.{IsSetAnswer, IsSetDecision, IsTried, LetsThrough, SetFails, set_decision_of}
+use Rattle.vupresal_c.specs.declared.by_set.Decider.{Decider}
 use Rattle.vupresal_c.specs.declared.fault.Fault.{Fault}
 use Rattle.vupresal_c.specs.declared.fault.Fault.TheVariants.{Empty}
 use Rattle.vupresal_c.proofs.Deciding.{allowed_of, decision_is}
@@ -66,3 +67,9 @@ module _ {X : Type 0} (f : X → Admitted) where
       -- it has no decision
       pub has_none : (e : Fault) → HeldFailsFor held (f x) e → SetFails (map f xs) held e
       has_none e why = inr (i, f x, tried, why)
+
+-- the decision of an answer
+pub set_decision_is : (filters : List Admitted) (held : Option RequestValue) (d : Decider) → IsSetAnswer filters held d
+    → IsSetDecision filters held (set_decision_of d)
+set_decision_is filters held d (a, tried, answer, ends) =
+    (a, tried, decision_is (AsksForHeld held) a d.verdict answer, rw (allowed_of d.verdict.allowed d.verdict.matched) ends)

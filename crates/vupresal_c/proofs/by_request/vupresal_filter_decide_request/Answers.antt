@@ -15,7 +15,7 @@ pub returns-in-Some-clause-found : goal.returns-in-Some-clause-found
 returns-in-Some-clause-found c =
     let same : to_z w32 (of_z w32 c.answered.result) ≡ c.answered.result = search rules in
     λ is. rw c.in-Some.ensures.taken (decided c.decide_held-answer.result
-    (AsksForHeld (request_in c.args.made.old)) (arc_value c.in-Some.owner.value) _ _
+    (AsksForHeld (request_in c.args.made.now)) (arc_value c.in-Some.owner.value) _ _
     c.answered.ensures.found c.answered.ensures.fault (rw (c.deref-in-Some.ensures, c.deref.ensures) at c.decide_held-answer.ensures.found)
     (sym same ∙ is))
 
@@ -24,7 +24,7 @@ returns-in-Some-clause-fault c =
     let same : to_z w32 (of_z w32 c.answered.result) ≡ c.answered.result = search rules in
     λ fails. rw c.in-Some.ensures.taken (
     let found = no_decision c.decide_held-answer.result
-    (HeldFailsFor (request_in c.args.made.old) (arc_value c.in-Some.owner.value)) _ _ c.answered.ensures.found
+    (HeldFailsFor (request_in c.args.made.now) (arc_value c.in-Some.owner.value)) _ _ c.answered.ensures.found
     c.answered.ensures.fault (rw (c.deref-in-Some.ensures, c.deref.ensures) at c.decide_held-answer.ensures.fault)
     (λ is. fails (same ∙ is)) in
     (found.0, found.1, same ∙ found.2)
