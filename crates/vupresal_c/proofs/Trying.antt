@@ -1,5 +1,5 @@
 -- The filters of a set, which are tried in order.
-use Rattle.std.proofs.Common.{◌≡◌, ◌∙◌, ◌+◌, ◌<◌, ◌≤◌, ◌⊎◌, ℕ, zero, suc, Bool, true, false, List, [], ◌∷◌, ◌++◌, Option, Some, None, ap, arith, get_or, inl, inr, length, map, option_map, refl, slice_get, subst, sym, take}
+use Rattle.std.proofs.Common.{◌≡◌, ◌∙◌, ◌+◌, ◌<◌, ◌≤◌, ◌⊎◌, ℕ, zero, suc, Bool, true, false, List, [], ◌∷◌, ◌++◌, Option, Some, None, ap, arith, get_or, inl, inr, length, map, not, option_map, refl, slice_get, subst, sym, take}
 use Rattle.std.specs.List.{AllByRecursion}
 use Rattle.std.proofs.lemmas.List.{length-map, map-append, take_more}
 use Rattle.std.proofs.lemmas.Option.{slice_get-map, slice_get_read}
@@ -13,6 +13,15 @@ use Rattle.vupresal_c.specs.declared.by_set.Decider.{Decider}
 use Rattle.vupresal_c.specs.declared.fault.Fault.{Fault}
 use Rattle.vupresal_c.specs.declared.fault.Fault.TheVariants.{Empty}
 use Rattle.vupresal_c.proofs.Deciding.{allowed_of, decision_is}
+
+-- what a test says that is turned round
+pub is_false : (b : Bool) → not b ≡ true → b ≡ false
+is_false true is = sym is
+is_false false is = refl
+
+pub is_true : (b : Bool) → not b ≡ false → b ≡ true
+is_true true is = refl
+is_true false is = sym is
 
 module _ {X : Type 0} (f : X → Admitted) where
   take_map : (k : ℕ) (xs : List X) → map f (take k xs) ≡ take k (map f xs)

@@ -3,7 +3,7 @@ use Rattle.std.specs.Arc.{arc_value}
 use Rattle.std.proofs.lemmas.Result.{err_from_is_err_and}
 use Rattle.vupresal_c.specs.Decisions.{IsAnswer}
 use Rattle.vupresal_c.specs.Kept.{AsksForHeld, HeldFailsFor}
-use Rattle.vupresal_c.proofs.Trying.{decides, has_none, next_passed}
+use Rattle.vupresal_c.proofs.Trying.{decides, has_none, is_false, is_true, next_passed}
 use Rattle.vupresal_c.proofs.by_set.try_all.Goals as goal
 use Rattle.vupresal_c.proofs.by_set.try_all.Goals.{then-not-verdict-via-then-not-verdict, then-not-verdict-via-else-not-verdict+then-number-filters}
 
@@ -22,7 +22,7 @@ returns-then-not-verdict-clause-found c =
     let one = decides arc_value (Some c.args.request.now) c.args.filters.now c.loop-number.number c.index-filters-number.result
     c.loop-number-test.true c.index-filters-number.is c.loop-number.invariant.0 c.in_ok-verdict.verdict answer in
     elim c.then-not-verdict.branch [
-      | then-not-verdict-via-then-not-verdict w ↦ one (inl w.if-not-verdict.true)
+      | then-not-verdict-via-then-not-verdict w ↦ one (inl (is_false c.in_ok-verdict.verdict.allowed w.if-not-verdict.true))
       | then-not-verdict-via-else-not-verdict+then-number-filters w ↦ one (inr w.if-number-filters.true)
     ]
 
@@ -30,7 +30,7 @@ pub loop-number-preserved : goal.loop-number-preserved
 loop-number-preserved c =
     let answer : IsAnswer (AsksForHeld (Some c.args.request.now)) (arc_value c.index-filters-number.result) c.in_ok-verdict.verdict
     = rw c.deref.ensures at c.in_ok-verdict.ensures.found in
-    let lets : c.in_ok-verdict.verdict.allowed ≡ true = c.if-not-verdict.false in
+    let lets : c.in_ok-verdict.verdict.allowed ≡ true = is_true c.in_ok-verdict.verdict.allowed c.if-not-verdict.false in
     (
       next_passed arc_value (Some c.args.request.now) c.args.filters.now c.loop-number.number c.index-filters-number.result
           c.loop-number-test.true c.index-filters-number.is c.loop-number.invariant.0 c.in_ok-verdict.verdict answer lets,
