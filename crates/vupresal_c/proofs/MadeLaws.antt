@@ -1,5 +1,5 @@
 -- What is decided on a request that was made once is what is decided by its parts or its head; so is each fault.
-use Rattle.std.proofs.Common.{◌≡◌, ℕ, List, Some, inl, inr, subst, sym}
+use Rattle.std.proofs.Common.{◌≡◌, ℕ, List, Some, inr, subst, sym}
 use Rattle.attributes.specs.Limits.{AreLimits, largest}
 use Rattle.attributes.specs.Request.{RequestValue}
 use Rattle.c_inputs.specs.Facts.{AreAccepted, facts_given}

@@ -1,12 +1,12 @@
 -- A request that was made once: what follows for other limits than those that it was made for.
-use Rattle.std.proofs.Common.{◌≡◌, ◌∙◌, ◌≤◌, ◌<◌, ◌⊎◌, ℕ, Bool, true, false, List, [], ◌∷◌, Option, Some, None, All, IsTrue, ap, arith, inl, inr, length, nat_lt, refl, subst, sym, ◌||◌}
+use Rattle.std.proofs.Common.{◌≡◌, ◌∙◌, ◌≤◌, ◌<◌, ℕ, Bool, true, false, List, [], ◌∷◌, Option, Some, None, IsTrue, ap, arith, inl, inr, length, nat_lt, refl, subst, sym, ◌||◌}
 use Rattle.std.proofs.lemmas.Bool.{lt-ltb, ltb-true, or_cases, or_left, or_right}
 use Rattle.std.proofs.lemmas.List.Elements.{All-weaker}
 use Rattle.std.specs.FinMap.{entries}
-use Rattle.std.specs.List.{AllByRecursion, list_any}
+use Rattle.std.specs.List.{AllByRecursion}
 use Rattle.attributes.specs.Conn.{Facts, texts_of}
 use Rattle.attributes.specs.Headers.{Entry}
-use Rattle.attributes.specs.Limits.{AreLimits, EntryInLimits, FactsInLimits, InLimits, IsWithin, LimitsValue, largest}
+use Rattle.attributes.specs.Limits.{AreLimits, EntryInLimits, InLimits, IsWithin, LimitsValue, largest}
 use Rattle.attributes.specs.Request.{RequestValue, head_protocol, in_protocol, protocol_of}
 use Rattle.attributes.specs.declared.limits.Limit.TheVariants as limit
 use Rattle.attributes.specs.declared.protocol.Protocol.{Protocol}

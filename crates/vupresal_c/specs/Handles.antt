@@ -5,9 +5,7 @@ use Rattle.attributes.specs.Conn.{Facts, conn_view}
 use Rattle.attributes.specs.Request.{RequestValue}
 use Rattle.rbac_policy.specs.declared.filter.Admitted.{Admitted}
 use Rattle.c_slots.specs.declared.chain_slot.Chain.{Chain}
-use Rattle.c_slots.specs.declared.conn_slot.Opened.{Opened}
 use Rattle.c_slots.specs.declared.proxy_slot.Core.{Core}
-use Rattle.c_slots.specs.declared.request_slot.Made.{Made}
 use Rattle.vupresal_c.specs.declared.connection.Connection.{Connection}
 use Rattle.vupresal_c.specs.declared.filter.Filter.{Filter}
 use Rattle.vupresal_c.specs.declared.made_request.MadeRequest.{MadeRequest}

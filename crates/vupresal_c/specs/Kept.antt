@@ -1,5 +1,5 @@
 -- Decisions on requests that were made before (this project's own): the verdict, and why there is none.
-use Rattle.std.specs.Prelude.{◌≡◌, ◌≤◌, ℕ, Option, IsSomeAnd}
+use Rattle.std.specs.Prelude.{◌≡◌, ◌≤◌, Option, IsSomeAnd}
 use Rattle.attributes.specs.Limits.{InLimits, LimitsValue}
 use Rattle.attributes.specs.Request.{RequestValue}
 use Rattle.http_front.specs.declared.fault.HeadFault.TheVariants.{OutsideLimits}

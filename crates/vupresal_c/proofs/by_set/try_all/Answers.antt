@@ -1,4 +1,4 @@
-use Rattle.std.proofs.Common.{◌≡◌, ◌<◌, Some, true, arith, get_or, inl, inr, length}
+use Rattle.std.proofs.Common.{◌≡◌, Some, true, arith, inl, inr}
 use Rattle.std.specs.Arc.{arc_value}
 use Rattle.std.proofs.lemmas.Result.{err_from_is_err_and}
 use Rattle.vupresal_c.specs.Decisions.{IsAnswer}
@@ -30,8 +30,7 @@ pub loop-number-preserved : goal.loop-number-preserved
 loop-number-preserved c =
     let answer : IsAnswer (AsksForHeld (Some c.args.request.now)) (arc_value c.index-filters-number.result) c.in_ok-verdict.verdict
     = rw c.deref.ensures at c.in_ok-verdict.ensures.found in
-    let lets : c.in_ok-verdict.verdict.allowed ≡ true = is_true c.in_ok-verdict.verdict.allowed c.if-not-verdict.false in
-    (
+    let lets : c.in_ok-verdict.verdict.allowed ≡ true = is_true c.in_ok-verdict.verdict.allowed c.if-not-verdict.false in (
       next_passed arc_value (Some c.args.request.now) c.args.filters.now c.loop-number.number c.index-filters-number.result
           c.loop-number-test.true c.index-filters-number.is c.loop-number.invariant.0 c.in_ok-verdict.verdict answer lets,
       inr (omega (arith, c.loop-number-test.true, c.if-number-filters.false)),
