@@ -165,6 +165,21 @@ def body_of_lines(case):
     case.holds("in a few lines", len(lines) < 100, len(lines))
 
 
+def long_body(case):
+    """A body goes on in an old file of the record until that has twice its bytes. The next request is in the newest file."""
+    server, _, _ = case.ready(record={"path": "record", "bytes": 65_536})
+    head = POST[:-2] + b"Content-Length: 1000000\r\n\r\n"
+    peer = server.answers("the head", [(head, allowed(b"0", 1))])
+    for _ in range(100):
+        peer.sendall(b"a" * 10_000)
+        time.sleep(0.002 * case.scale)
+    server.answers("the next one", [(PLAIN, allowed(b"0", 1))], peer)
+    case.until("it is recorded", lambda: replayed(case, "record", 0) == allowed(b"0", 1))
+    sizes = {it.name: it.stat().st_size for it in case.folder.glob("record*")}
+    case.holds("the old file has its end", sizes.keys() == {"record", "record.1"} and 131_072 <= sizes["record.1"] < 400_000, sizes)
+    case.same("the old file", replayed(case, "record.1", 0), allowed(b"0", 1))
+
+
 def fed(case, record):
     """The bytes of the update stream in a file of the record."""
     return b"".join(bytes.fromhex(it["hex"]) for it in events(case, record) if it["event"] == "ads_bytes")
@@ -220,4 +235,4 @@ def full_record(case):
     case.same("its replay", replayed(case, "record", 0), GET_YES)
 
 
-CASES = {it.__name__: it for it in (removed_record, record, rotation, amid_bodies, body_of_lines, lost_streams, full_record)}
+CASES = {it.__name__: it for it in (removed_record, record, rotation, amid_bodies, body_of_lines, long_body, lost_streams, full_record)}

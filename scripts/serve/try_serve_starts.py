@@ -7,7 +7,7 @@ import subprocess
 import time
 
 from loopback import free_port, heard
-from replays import F, PLAIN, allowed, denied, request
+from replays import F, PLAIN, allowed, denied, request, resource, response
 from try_serve_base import TOP, equals, filter_of, policy, remote, text, timed_out, whole
 
 PROXY = {"node": "n", "cluster": "c", "filters": [{"name": "f"}]}
@@ -352,23 +352,75 @@ def until_eof(case):
     case.same("an input that is empty", case.run("serve", "--config", "null")[0], 0)
 
 
+def handed(case, listener, name="fd.json"):
+    """Begins a process with these settings, whose descriptor 3 is the socket."""
+    command = f"exec {case.program} serve --config {name} 3<&{listener.fileno()}"
+    it = subprocess.Popen(["bash", "-c", command], cwd=case.folder, pass_fds=[listener.fileno()], stdin=subprocess.DEVNULL,
+                          stderr=subprocess.PIPE)
+    case.ends.callback(lambda: (it.kill(), it.communicate()))
+    return it
+
+
 def handed_socket(case):
-    """A listening socket that is handed over as descriptor 3, shared by two processes."""
-    plane, listener = case.plane(), socket.create_server(("127.0.0.1", 0))
+    """A listening socket that is handed over as descriptor 3, shared by two processes: of TCP, and of Unix."""
+    for number, listener in enumerate((socket.create_server(("127.0.0.1", 0)), unix_listener(case.folder / "handed"))):
+        plane = case.plane()
+        case.ends.callback(listener.close)
+        case.config("fd.json", {**LEAST, "listen": "fd:3", "control": plane.address, "update_log": f"updates-{number}"})
+        for _ in range(2):
+            handed(case, listener)
+            stream = plane.accept()
+            stream.frame()
+            stream.give(b"1", filter_of(policy()))
+        for _ in range(20):
+            with socket.socket(listener.family) as peer:
+                peer.settimeout(10 * case.scale)
+                peer.connect(listener.getsockname())
+                peer.sendall(PLAIN)
+                case.same(f"{listener.family.name}: an answer", heard(peer, 100), allowed(b"0", 1))
+
+
+def unix_listener(path):
+    """A Unix socket that listens at the path."""
+    listener = socket.socket(socket.AF_UNIX)
+    listener.bind(str(path))
+    listener.listen(64)
+    return listener
+
+
+def handed_facts(case):
+    """At a Unix socket that is handed over, addresses come from `facts`; a connection that waits before the start is answered."""
+    listener = unix_listener(case.folder / "handed")
     case.ends.callback(listener.close)
-    case.config("fd.json", {**LEAST, "listen": "fd:3", "control": plane.address, "update_log": "updates"})
-    command = f"exec {case.program} serve --config fd.json 3<&{listener.fileno()}"
-    for _ in range(2):
-        it = subprocess.Popen(["bash", "-c", command], cwd=case.folder, pass_fds=[listener.fileno()], stdin=subprocess.DEVNULL)
-        case.ends.callback(lambda it=it: (it.kill(), it.wait()))
-        stream = plane.accept()
-        stream.frame()
-        stream.give(b"1", filter_of(policy()))
-    for _ in range(20):
-        with socket.create_connection(listener.getsockname(), 10 * case.scale) as peer:
-            peer.sendall(PLAIN)
-            case.same("an answer", heard(peer, 100), allowed(b"0", 1))
+    peer = socket.socket(socket.AF_UNIX)
+    case.ends.callback(peer.close)
+    peer.settimeout(10 * case.scale)
+    peer.connect(listener.getsockname())
+    known = filter_of(policy(principal=remote(b"192.0.2.0", 24), condition=equals(b"source", b"address", text(b"192.0.2.7:9"))))
+    (case.folder / "policies").write_bytes(response(b"1", b"n1", resource(b"f", known))[5:])
+    case.config("fd.json", {**LEAST, "listen": "fd:3", "control": "file:policies",
+                            "facts": {"direct_remote_ip": "192.0.2.7", "source.address": "192.0.2.7:9"}})
+    handed(case, listener)
+    peer.sendall(PLAIN)
+    case.same("an answer", heard(peer, 100), allowed(b"0", 1))
+
+
+def not_listening(case):
+    """What is handed over and does not listen is refused, with its name: a file, and sockets of other kinds."""
+    connected, other = socket.socketpair()
+    kinds = {"a file": open(case.folder / "a file", "w+b"), "a pair": connected, "one of Unix that does not listen": socket.socket(socket.AF_UNIX),
+             "one of TCP that does not listen": socket.socket(), "one of UDP": socket.socket(type=socket.SOCK_DGRAM),
+             "datagrams of Unix": socket.socket(socket.AF_UNIX, socket.SOCK_DGRAM)}
+    case.ends.callback(other.close)
+    case.config("fd.json", {**LEAST, "listen": "fd:3"})
+    for what, it in kinds.items():
+        case.ends.callback(it.close)
+        said = handed(case, it)
+        errors = said.communicate(timeout=30 * case.scale)[1]
+        case.same(f"{what}: the status", said.returncode, 2)
+        case.holds(f"{what}: the line", errors.startswith(b"cannot listen on fd:3: "), errors)
 
 
 CASES = {it.__name__: it for it in (check, examples, bad_settings, several_mistakes, strange_records, addresses, unix_paths, facts,
-                                    mapped_facts, known_facts, until_eof, handed_socket, no_streams)}
+                                    mapped_facts, known_facts, until_eof, handed_socket,
+                                    handed_facts, not_listening, no_streams)}

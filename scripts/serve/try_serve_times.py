@@ -192,10 +192,22 @@ def drain(case):
     case.holds("it ends at once", time.monotonic() - begin < case.scale, time.monotonic() - begin)
 
 
+def drained_pipeline(case):
+    """Requests that came before `/drain` are answered, also those behind the one that is under way."""
+    server, _, _ = case.ready(timeouts=times(case, drain=60_000))
+    peer = server.connect()
+    peer.sendall(PLAIN * 400)
+    first = peer.recv(len(YES))
+    case.same("/drain", server.fetch("/drain", "POST")[0], 200)
+    rest = heard(peer, 400 * len(YES))
+    case.same("all are answered", first + rest, YES * 400)
+    case.same("it ends", server.ended(), 0)
+
+
 def connects(server):
     with contextlib.suppress(OSError), socket.create_connection(("127.0.0.1", server.port), 1):
         return True
     return False
 
 
-CASES = {it.__name__: it for it in (head, body, idle, write, lingers, first_response, deaf_control, drain)}
+CASES = {it.__name__: it for it in (head, body, idle, write, lingers, first_response, deaf_control, drain, drained_pipeline)}

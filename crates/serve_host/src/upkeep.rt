@@ -129,7 +129,7 @@ impl<'r, R: Files> HostUpkeep<'r, R> {
             let limit = metrics.limit();
             let _ = writeln!(
                 self.errors,
-                "the limit of {limit} connections is reached: the one that is idle for the longest time is closed"
+                "the limit of {limit} connections is reached: one that is idle for a second gives up its place"
             );
         }
     }

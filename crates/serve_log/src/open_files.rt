@@ -115,24 +115,25 @@ impl<W: Write + Drop> OpenFiles<W> {
         let _ = self.current.add(line, &mut self.faults);
     }
 
-    /// Writes to each file once, if lines wait for it, and closes the old ones that no connection needs.
-    pub(crate) fn flush(&mut self, now: u64)
+    /// Writes to each file once, if lines wait for it. Closes the old ones that no connection needs, or that have twice so
+    /// many bytes.
+    pub(crate) fn flush(&mut self, now: u64, bytes: u64)
         ensures current { Takes W.contents [] self.old.current self.new.current 0 }
         ensures older { StayOpen W.contents self.old.older.items self.new.older.items }
         ensures lines { self.new.faults.dropped ≡ self.old.faults.dropped }
     {
         flush_each(&mut self.older, now, &mut self.faults);
         self.current.flush(now, &mut self.faults);
-        self.close_done();
+        self.close_done(bytes);
     }
 
-    // Closes the old files that no connection needs.
-    fn close_done(&mut self)
+    // Closes the old files that no connection needs, or that have twice so many bytes.
+    fn close_done(&mut self, bytes: u64)
         ensures current { self.new.current ≡ self.old.current }
         ensures older { StayOpen W.contents self.old.older.items self.new.older.items }
         ensures lines { self.new.faults.dropped ≡ self.old.faults.dropped }
     {
-        self.older.retain(|file| !file.is_done());
+        self.older.retain(|file| !file.is_done(bytes));
     }
 }
 

@@ -87,9 +87,15 @@ impl<W: Write + Drop> RecordFile<W> {
         self.bytes >= bytes && later > 0 && later >= self.beginning
     }
 
-    /// Whether no connection needs it, and no line waits.
-    pub(crate) fn is_done(&self) -> bool {
-        self.is_written() && (self.users == 0 || !self.is_whole)
+    /// Whether no line waits, and no connection needs it or it has twice what makes a file full.
+    pub(crate) fn is_done(&self, bytes: u64) -> bool {
+        let is_needed = self.users > 0 && self.is_whole && !self.is_twice_full(bytes);
+        self.is_written() && !is_needed
+    }
+
+    // Whether it has twice so many bytes, and four times its beginning.
+    fn is_twice_full(&self, bytes: u64) -> bool {
+        self.bytes / 2 >= bytes && self.bytes / 4 >= self.beginning
     }
 
     /// One connection more or less needs it.

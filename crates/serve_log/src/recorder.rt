@@ -50,8 +50,8 @@ pub struct RecordSettings<'a> {
 /// server's, and is never used again.
 ///
 /// A connection's events stay in the file that has its earlier ones, until it is fresh. Then it opens again in the file
-/// that is written. Of the older files two stay open. If a connection needs an older one, or one with a lost line, its
-/// events are not recorded until it is fresh.
+/// that is written. Of the older files two stay open, each until it has twice the bytes of a full one. If a connection
+/// needs another file, or one with a lost line, its events are not recorded until it is fresh.
 ///
 /// A file ends at a line that is lost. Once what waited for it is written, a new file is begun.
 #[derive(Drop)]
@@ -181,7 +181,7 @@ impl<F: LogFiles + Drop> Recorder<F> {
         ensures current { GoesOn F.File.contents self.old.updates self.old.open_files self.new.open_files }
         ensures connections { self.new.connections ≡ self.old.connections }
     {
-        self.open_files.flush(now_ms);
+        self.open_files.flush(now_ms, self.bytes);
         if self.is_due(now_ms) {
             self.go_on_later(now_ms);
         }

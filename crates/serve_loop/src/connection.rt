@@ -164,8 +164,8 @@ impl Connection {
         Next::Again
     }
 
-    /// Why the connection is to be closed now. None if no time has passed and, while the server ends, a request is under
-    /// way.
+    /// Why the connection is to be closed now; none if no time has passed. While the server ends, one in which a request is
+    /// under way or a turn is due goes on.
     pub(crate) fn close_reason(
         &self,
         settings: &Settings,
@@ -181,7 +181,7 @@ impl Connection {
                 CloseReason::Served,
             ),
             Phase::Open if passed_since(self.begun, settings.head, now) => Some(CloseReason::Slow),
-            Phase::Open if is_quiet && is_ending => Some(CloseReason::Drained),
+            Phase::Open if is_quiet && is_ending && !self.is_due => Some(CloseReason::Drained),
             Phase::Open if is_quiet && has_passed(self.flow.used, settings.idle, now) => Some(
                 CloseReason::Idle,
             ),

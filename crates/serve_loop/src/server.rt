@@ -10,7 +10,7 @@ use crate::idle::longest_idle;
 use crate::network::{Network, Ready};
 use crate::observer::Observer;
 use crate::service::Service;
-use crate::settings::{Settings, has_passed, most_accepts};
+use crate::settings::{Settings, has_passed, most_accepts, passed_since};
 use crate::stream::{CloseReason, Stream};
 use crate::updates::Updates;
 use crate::upkeep::Upkeep;
@@ -19,6 +19,8 @@ use std::io::{self, ErrorKind};
 
 // How long a wait takes at most, in milliseconds. After it times are looked at.
 const TICK: u64 = 100;
+// How long a connection is idle before it gives up its place, in milliseconds. One that is slow to ask keeps it for so long.
+const REST: u64 = 1_000;
 // How long a wait takes at most while further connections may wait that other processes may accept.
 const SHARED: u64 = 1;
 
@@ -227,7 +229,7 @@ impl<F: Drop, N: Network<F>, S: Service<F>, O: Observer<F, S>> Server<F, N, S, O
         Ok(())
     }
 
-    // Closes the connection that is idle for the longest time, if all places are taken.
+    // Closes the connection that is idle for the longest time, if all places are taken and that is long enough.
     fn make_room(&mut self) -> Result<(), AllocError>
         ensures goes_on { GoesOn N.setup S.turns S.setup self.old.board.parties self.new.board.parties }
     {
@@ -235,8 +237,16 @@ impl<F: Drop, N: Network<F>, S: Service<F>, O: Observer<F, S>> Server<F, N, S, O
             return Ok(());
         }
         match longest_idle(&self.connections) {
-            Some(k) => self.close(k, CloseReason::Full),
-            None => Ok(()),
+            Some(k) if self.has_rested(k) => self.close(k, CloseReason::Full),
+            _ => Ok(()),
+        }
+    }
+
+    // Whether a connection is idle for so long that it gives up its place.
+    fn has_rested(&self, k: usize) -> bool {
+        match self.connections.get(k) {
+            Some(connection) => passed_since(connection.idle_since(), REST, self.board.now()),
+            None => false,
         }
     }
 

@@ -16,6 +16,7 @@ mod grpc;
 mod inherited;
 mod input;
 mod link;
+mod listener;
 mod listeners;
 mod nonblocking;
 mod places;

@@ -3,30 +3,23 @@
 use crate::accepted::Accepted;
 use crate::fault::OpenFault;
 use crate::inherited::Inherited;
-use crate::stream::NetStream;
-use crate::tcp::TcpLink;
+use crate::listener::{Arrival, Listener};
 use crate::turn::after;
 use crate::unix_path;
-use mio::net::{TcpListener, TcpStream, UnixListener};
-use mio::{Interest, Registry, Token};
+use mio::net::TcpListener;
+use mio::{Registry, Token};
 use serve_config::Address;
 use std::alloc::{AllocError, Global};
 use std::fs::Files;
 use std::io::{self, ErrorKind};
 use std::net::{Net, SocketAddr};
 
-// A listening socket.
-#[derive(Drop)]
-enum Listener {
-    Inherited(Inherited),
-    Tcp(TcpListener),
-    Unix(UnixListener),
-}
-
 /// The listening sockets of a server. They are accepted from in turn.
 #[derive(Drop)]
 pub(crate) struct Listeners {
     all: Vec<Listener>,
+    // connections of inherited sockets, which the system will not report
+    first: Vec<Arrival>,
     // which is tried first
     next: usize,
 }
@@ -36,23 +29,32 @@ impl Listeners {
     /// supervisor did not open could otherwise be one of them.
     pub(crate) fn inherited(alloc: Global, listen: &[Address]) -> Result<Listeners, OpenFault> {
         let mut all = Vec::new(alloc);
+        let mut first = Vec::new(alloc);
         let mut taken: Vec<i32> = Vec::new(alloc);
         for address in listen {
             let Address::Descriptor(descriptor) = address else {
                 continue;
             };
-            let listener = if taken.contains(descriptor) {
+            let inherited = if taken.contains(descriptor) {
                 Err(io::Error::from(ErrorKind::AddrInUse))
             } else {
                 Inherited::take(*descriptor)
             };
-            match listener {
-                Ok(listener) => all.push(Listener::Inherited(listener))?,
+            let inherited = match inherited {
+                Ok(inherited) => inherited,
                 Err(error) => return Err(fault(alloc, address, error)),
+            };
+            all.push(inherited.listener)?;
+            if let Some(arrival) = inherited.first {
+                first.push(arrival)?;
             }
             taken.push(*descriptor)?;
         }
-        Ok(Listeners { all, next: 0 })
+        Ok(Listeners {
+            all,
+            first,
+            next: 0,
+        })
     }
 
     /// Opens the other sockets.
@@ -79,25 +81,21 @@ impl Listeners {
     /// Has all reported under this token.
     pub(crate) fn register(&mut self, registry: &Registry, token: Token) -> io::Result<()> {
         for listener in self.all.iter_mut() {
-            match listener {
-                Listener::Inherited(one) => one.register(registry, token)?,
-                Listener::Tcp(one) => registry.register(one, token, Interest::READABLE)?,
-                Listener::Unix(one) => registry.register(one, token, Interest::READABLE)?,
-            }
+            listener.register(registry, token)?;
         }
         Ok(())
     }
 
     /// Whether a connection waits that the system will not report.
     pub(crate) fn has_first(&self) -> bool {
-        self.all.iter().any(|listener| match listener {
-            Listener::Inherited(one) => one.has_first(),
-            _ => false,
-        })
+        !self.first.is_empty()
     }
 
     /// The next connection: the listeners are tried in turn. Fails with `WouldBlock` once none has one.
     pub(crate) fn accept(&mut self, registry: &Registry, token: Token) -> io::Result<Accepted> {
+        if let Some(arrival) = self.first.pop() {
+            return arrival.accepted(registry, token);
+        }
         let count = self.all.len();
         for _ in 0..count {
             let at = self.next;
@@ -108,9 +106,10 @@ impl Listeners {
             let Some(listener) = self.all.get_mut(at) else {
                 break;
             };
-            match accept_from(listener, registry, token) {
+            match listener.accept() {
+                Ok(arrival) => return arrival.accepted(registry, token),
                 Err(error) if error.kind() == ErrorKind::WouldBlock => {}
-                outcome => return outcome,
+                Err(error) => return Err(error),
             }
         }
         Err(io::Error::from(ErrorKind::WouldBlock))
@@ -120,12 +119,7 @@ impl Listeners {
     pub(crate) fn addresses(&self, alloc: Global) -> Result<Vec<SocketAddr>, AllocError> {
         let mut found = Vec::new(alloc);
         for listener in self.all.iter() {
-            let address = match listener {
-                Listener::Inherited(one) => one.local_addr(),
-                Listener::Tcp(one) => one.local_addr(),
-                Listener::Unix(_) => continue,
-            };
-            if let Ok(address) = address {
+            if let Some(address) = listener.address() {
                 found.push(address)?;
             }
         }
@@ -144,47 +138,4 @@ fn fault(alloc: Global, address: &Address, error: io::Error) -> OpenFault {
         Ok(address) => OpenFault::Listen { address, error },
         Err(AllocError) => OpenFault::Memory(AllocError),
     }
-}
-
-fn accept_from(listener: &mut Listener, registry: &Registry, token: Token) -> io::Result<Accepted> {
-    match listener {
-        Listener::Inherited(one) => admitted(one.accept()?, registry, token),
-        Listener::Tcp(one) => admitted(one.accept()?, registry, token),
-        Listener::Unix(one) => {
-            let (mut stream, _) = one.accept()?;
-            registry.register(&mut stream, token, Interest::READABLE | Interest::WRITABLE)?;
-            Ok(Accepted {
-                stream: NetStream::Unix(stream),
-                peer: None,
-                local: None,
-            })
-        }
-    }
-}
-
-fn admitted(
-    accepted: (TcpStream, SocketAddr),
-    registry: &Registry,
-    token: Token,
-) -> io::Result<Accepted> {
-    let (stream, peer) = accepted;
-    let local = stream.local_addr()?;
-    Ok(Accepted {
-        stream: opened(stream, registry, token)?,
-        peer: Some(peer),
-        local: Some(local),
-    })
-}
-
-/// A TCP stream that was accepted. What is written is sent at once, and it is reported under this token.
-pub(crate) fn opened(
-    stream: TcpStream,
-    registry: &Registry,
-    token: Token,
-) -> io::Result<NetStream> {
-    let mut stream = stream;
-    // fails where the other end has gone, which the first read reports
-    let _ = stream.set_nodelay(true);
-    registry.register(&mut stream, token, Interest::READABLE | Interest::WRITABLE)?;
-    Ok(NetStream::Tcp(TcpLink::accepted(stream)))
 }
