@@ -1,5 +1,6 @@
 /* Times one decision through the library: embed_decisions FILTER HEAD. Prints nanoseconds of processor time, each the best of ROUNDS
-   rounds, by name: the call alone, a decision by the head and by the parts, an admission. */
+   rounds, by name: the call alone, a decision by the head and by the parts, an admission. Of a request that is made once: a request by
+   its head and by its parts on a connection, and a further filter on it. */
 #include <stdio.h>
 #include <stdlib.h>
 #include <string.h>
@@ -11,6 +12,8 @@ enum { ROUNDS = 9, CALLS = 20000, ADMISSIONS = 20, MOST_LINES = 64 };
 static uint8_t message[1 << 21], head[1 << 16];
 static vupresal_line lines[MOST_LINES];
 static vupresal_filter filter;
+static vupresal_connection connection;
+static vupresal_made_request made;
 static vupresal_facts facts = VUPRESAL_NO_FACTS;
 static vupresal_request request;
 static size_t length, head_length;
@@ -45,6 +48,16 @@ static void by_head(void) {
 static void by_parts(void) {
   vupresal_decision decision;
   must(vupresal_filter_decide(&filter, &request, &facts, &decision));
+  if (!decision.is_allowed) exit(3);
+}
+
+static void made_of_head(void) { must(vupresal_request_of_head(&made, &connection, head, head_length)); }
+
+static void made_of_parts(void) { must(vupresal_request_of_parts(&made, &connection, &request)); }
+
+static void further_filter(void) {
+  vupresal_decision decision;
+  must(vupresal_filter_decide_request(&filter, &made, &decision));
   if (!decision.is_allowed) exit(3);
 }
 
@@ -93,7 +106,13 @@ int main(int count, char **words) {
   measure("call", bare_call, CALLS * 10);
   measure("head", by_head, CALLS);
   measure("parts", by_parts, CALLS);
+  must(vupresal_connection_new(&connection, &facts));
+  measure("made_head", made_of_head, CALLS);
+  measure("made_parts", made_of_parts, CALLS);
+  measure("further", further_filter, CALLS);
   measure("admit", admission, ADMISSIONS);
+  vupresal_request_free(&made);
+  vupresal_connection_free(&connection);
   vupresal_filter_free(&filter);
   return 0;
 }

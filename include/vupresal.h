@@ -14,18 +14,21 @@
  *     if (status == VUPRESAL_OK && decision.is_allowed) ..
  *     vupresal_filter_free(&filter);
  *
+ * What is asked more than once is made once: the facts of a connection, a request for several filters, several filters as a set.
  * A proxy's core takes updates from a control plane, admits their filters, and answers requests. It is at the end of this file.
  *
  * STATUSES. A function that can fail returns a status: VUPRESAL_OK or one of the others below. A decision beside any other status
  * refuses, so a caller that forgets the status lets nothing through. vupresal_status_text gives the meaning of each.
  *
- * HANDLES. vupresal_filter and vupresal_proxy are memory of the caller. Set all bytes to 0 before the first use; that is an empty
- * handle. A call on an empty handle is an ordinary case with an answer, and so is a second free. Do not read, change or copy a
- * handle. It may be moved, if the old place is not used again. Nothing in the library points to it.
+ * HANDLES. vupresal_filter, vupresal_connection, vupresal_made_request, vupresal_set and vupresal_proxy are memory of the caller.
+ * Set all bytes to 0 before the first use; that is an empty handle. A call on an empty handle is an ordinary case with an answer,
+ * and so is a second free. Do not read, change or copy a handle. It may be moved, if the old place is not used again. Nothing in
+ * the library points to it.
  *
  * MEMORY. The library calls malloc, realloc and free of the process. Where memory runs out, the status is VUPRESAL_MEMORY, and the
- * handle holds what it held before. No function keeps a pointer that it was given: messages, heads, texts and rooms are the
- * caller's again once the call returns. What a function writes may not overlap anything else that it is given.
+ * handle holds what it held before; that of a connection or a request is then empty. No function keeps a pointer that it was given:
+ * messages, heads, texts and rooms are the caller's again once the call returns. What a function writes may not overlap anything
+ * else that it is given.
  *
  * POINTERS. A pointer to bytes, lines or resources is valid for its length, and may be null where that is 0. No other pointer may be
  * null. A bool is 0 or 1. Nothing else matters: any message, head, text or number gets an answer. Where there is a limit of a length,
@@ -289,6 +292,114 @@ static inline int32_t vupresal_filter_share(vupresal_filter *from, vupresal_filt
   vupresal_filter_free(&other);
   return status;
 }
+
+/* ------------------------------------------------------------------------------------------ connections, requests and sets, once */
+
+/* A connection's handle: facts that were checked once, for all its requests. */
+typedef struct vupresal_connection {
+  void *at;
+  bool held;
+} vupresal_connection;
+
+/* A request's handle: a request that was made once, for any filters. */
+typedef struct vupresal_made_request {
+  void *at;
+  bool held;
+} vupresal_made_request;
+
+/* The handle of a set: filters in order, of which each may refuse. */
+typedef struct vupresal_set {
+  void *at;
+  bool held;
+} vupresal_set;
+
+/* The decision of a set. */
+typedef struct vupresal_set_decision {
+  vupresal_decision decision; /* of the filter that decides */
+  uint64_t filter;            /* which one it is, from 0 in the order in which they were added */
+} vupresal_set_decision;
+
+/* Checks the facts of a connection, and puts it into the handle, in place of what that held. The facts are the caller's again.
+ *
+ * Status: VUPRESAL_OK; VUPRESAL_BAD_REQUEST for a text that is not UTF-8 or has more than 65,536 bytes; VUPRESAL_OUT_OF_RANGE for a port or
+ * an address; VUPRESAL_MEMORY. After any but VUPRESAL_OK the handle is empty. A text above a filter's limit, as of 1,024 bytes, is found when a
+ * request is made or decided. */
+int32_t vupresal_connection_new(vupresal_connection *connection, const vupresal_facts *facts);
+
+/* Makes a request on the connection, by its parts or by its head of HTTP/1, and puts it into the handle, in place of what that held.
+ * Nothing that was given is kept, and the connection may be freed before the request. The limits are the greatest.
+ *
+ * Status: as of vupresal_filter_decide and vupresal_filter_decide_head; VUPRESAL_EMPTY if the connection is empty. After any but VUPRESAL_OK
+ * the handle is empty, so a caller that forgets the status gets no decision. No part is read in the cases that vupresal_filter_decide
+ * names, with the greatest limits. */
+int32_t vupresal_request_of_parts(vupresal_made_request *made, vupresal_connection *connection, const vupresal_request *request);
+int32_t vupresal_request_of_head(vupresal_made_request *made, vupresal_connection *connection, const uint8_t *head, size_t length);
+
+/* Decides on a request that was made before: as vupresal_filter_decide on its parts, or vupresal_filter_decide_head on its head.
+ *
+ * Status: VUPRESAL_OK, with the decision; VUPRESAL_OUTSIDE_LIMITS if the request is outside the filter's limits; VUPRESAL_MEMORY;
+ * VUPRESAL_EMPTY if a handle is empty. Both handles stay as they were. */
+int32_t vupresal_filter_decide_request(vupresal_filter *filter, vupresal_made_request *made, vupresal_decision *decision);
+
+/* Adds the filter to the set, as its last. Both then share it, as with vupresal_filter_share.
+ * Status: VUPRESAL_OK; VUPRESAL_MEMORY; VUPRESAL_EMPTY if the filter's handle is empty. After any but VUPRESAL_OK the set is as it was. */
+int32_t vupresal_set_add(vupresal_set *set, vupresal_filter *filter);
+
+/* Decides on a request by the filters of the set, in order. The first that refuses it decides; if none refuses, the last does.
+ *
+ * Status: VUPRESAL_OK, with the decision; VUPRESAL_OUTSIDE_LIMITS if the request is outside the limits of a filter that is tried;
+ * VUPRESAL_MEMORY; VUPRESAL_EMPTY if the set has no filter, or the request's handle is empty. Both handles stay as they were. */
+int32_t vupresal_set_decide(vupresal_set *set, vupresal_made_request *made, vupresal_set_decision *decision);
+
+/* What a request is at fault with: vupresal_cause.reason. */
+enum {
+  VUPRESAL_CAUSE_NONE = 0,            /* there is no fault, or the status says it all */
+  VUPRESAL_CAUSE_METHOD = 1,          /* the method is malformed (RFC 9112, also for those below) */
+  VUPRESAL_CAUSE_TARGET = 2,          /* the target is malformed */
+  VUPRESAL_CAUSE_VERSION = 3,         /* the version is malformed */
+  VUPRESAL_CAUSE_LINE_END = 4,        /* the end of a line is malformed */
+  VUPRESAL_CAUSE_FIELD_NAME = 5,      /* the name of a field is malformed */
+  VUPRESAL_CAUSE_FIELD_VALUE = 6,     /* the value of a field is malformed */
+  VUPRESAL_CAUSE_FOLDED_LINE = 7,     /* a line begins with white space */
+  VUPRESAL_CAUSE_UNFINISHED = 8,      /* the head is not whole */
+  VUPRESAL_CAUSE_TOO_LONG = 9,        /* the head has more than 65,536 bytes */
+  VUPRESAL_CAUSE_OTHER_FORM = 10,     /* the target does not begin with a slash */
+  VUPRESAL_CAUSE_BAD_TEXT = 11,       /* a value is not UTF-8 */
+  VUPRESAL_CAUSE_NO_HOST = 12,        /* a request of HTTP/1.1 or a later one has no host */
+  VUPRESAL_CAUSE_TWO_HOSTS = 13,      /* there are two hosts */
+  VUPRESAL_CAUSE_TWO_LENGTHS = 14,    /* there are two Content-Length */
+  VUPRESAL_CAUSE_BAD_LENGTH = 15,     /* a Content-Length is no number of 1 to 18 digits */
+  VUPRESAL_CAUSE_TRANSFER_CODING = 16, /* there is a Transfer-Encoding */
+  VUPRESAL_CAUSE_OUTSIDE_LIMITS = 17, /* a limit is exceeded: vupresal_cause.limit */
+  VUPRESAL_CAUSE_FACTS = 18           /* a text of the facts is not UTF-8, or too long to be read */
+};
+
+/* Which limit is exceeded: vupresal_cause.limit. */
+enum {
+  VUPRESAL_LIMIT_UNKNOWN = 0, /* none, or it is not told: of a head it never is */
+  VUPRESAL_LIMIT_FIELDS = 1,  /* the number of field lines */
+  VUPRESAL_LIMIT_NAME = 2,    /* the bytes of a name */
+  VUPRESAL_LIMIT_VALUE = 3,   /* the bytes of a value: of one line, or of all lines of one name */
+  VUPRESAL_LIMIT_METHOD = 4,  /* the bytes of the method */
+  VUPRESAL_LIMIT_TARGET = 5,  /* the bytes of the target */
+  VUPRESAL_LIMIT_TEXT = 6     /* the bytes of a text of the facts */
+};
+
+/* Why a request is not made. */
+typedef struct vupresal_cause {
+  uint32_t reason, limit;
+} vupresal_cause;
+
+/* Tells why no request is made of these parts, or of this head: once a call that makes it, or decides on it, had the status
+ * VUPRESAL_BAD_REQUEST, VUPRESAL_OUTSIDE_LIMITS or VUPRESAL_TRANSFER_CODING. The limits are the greatest, so nothing is at fault with a request
+ * that is outside the limits of a filter alone. Status: that of making the request. */
+int32_t vupresal_cause_of_parts(vupresal_connection *connection, const vupresal_request *request, vupresal_cause *cause);
+int32_t vupresal_cause_of_head(vupresal_connection *connection, const uint8_t *head, size_t length, vupresal_cause *cause);
+
+/* Frees what the handle holds, and leaves it empty. */
+void vupresal_connection_free(vupresal_connection *connection);
+void vupresal_request_free(vupresal_made_request *made);
+void vupresal_set_free(vupresal_set *set);
 
 /* --------------------------------------------------------------------------------------------------------- the core of a proxy */
 

@@ -6,7 +6,7 @@ import subprocess
 
 HERE = pathlib.Path(__file__).resolve().parent
 PROGRAMS, EXPORTS = HERE / "programs", HERE / "exports.map"
-NEWER = "VUPRESAL_0.2 {\n  global:\n    vupresal_newer;\n} VUPRESAL_0.1;\n"
+NEWER = "VUPRESAL_0.3 {\n  global:\n    vupresal_newer;\n} VUPRESAL_0.2;\n"
 # the number of another library, how much larger its facts are, and what the old program says
 LIBRARIES = ((1_000, 0, "allow"), (1_001, 0, "allow"), (2_000, 0, "allow"), (999_999, 0, "allow"), (1_000_000, 0, "not expected"),
              (999, 0, "not expected"), (2_000, 8, "not expected"))
@@ -80,7 +80,7 @@ def old_and_newer(trials):
         return
     refused = said_with(newer, trials.library / "lib")
     wrong += [] if said_with(newer, folders[2_000, 0]) == "allow" else [("a newer program", 0, said_with(newer, folders[2_000, 0]))]
-    wrong += [] if "VUPRESAL_0.2" in refused else [("a newer program with an old library", 0, refused)]
+    wrong += [] if "VUPRESAL_0.3" in refused else [("a newer program with an old library", 0, refused)]
     if wrong:
         trials.note("an old program with a newer library", repr(wrong))
     else:

@@ -99,7 +99,7 @@ def combine(target, wanted, parts, shown):
 
 def share(target, wanted, whole, shown):
     """The shared library, which shows the exports alone, each with its version."""
-    listed = re.findall(r"(?m)^    (vupresal_\w+);$", EXPORTS.read_text())
+    listed = sorted(re.findall(r"(?m)^    (vupresal_\w+);$", EXPORTS.read_text()))
     if listed != sorted(shown):
         stop(f"{EXPORTS.name} has other names than crates/vupresal_c: {sorted(set(listed) ^ set(shown))}")
     call(target.tool("cc"), "-shared", f"-Wl,-soname,{soname()},--version-script,{EXPORTS},-z,relro,-z,now,-z,defs,--gc-sections", whole, "-o", wanted)

@@ -1,4 +1,4 @@
-"""The manual page vupresal(3), made of include/vupresal.h: its first comment, its functions with their comments, and its statuses."""
+"""The manual page vupresal(3), made of include/vupresal.h: its first comment, its functions with their comments, its statuses and causes."""
 import re
 from typing import Iterator, List, NamedTuple, Tuple
 
@@ -49,8 +49,11 @@ def names(header: str) -> List[str]:
     return [name for group in groups(header) for name, _ in group.prototypes]
 
 
-def statuses(header: str) -> Iterator[str]:
-    for name, said in re.findall(r"(?m)^ +(VUPRESAL_\w+) = -?\d+,? +/\* (.*?) \*/$", header):
+def numbers(header: str, first: str) -> Iterator[str]:
+    """The names of the enumeration that begins with this one, and what is said of them."""
+    found = re.search(rf"(?s)enum \{{\s*{first} = .*?\}};", header)
+    assert found, f"the header has no {first}"
+    for name, said in re.findall(r"(?m)^ +(VUPRESAL_\w+) = -?\d+,?(?: +/\* (.*?) \*/)?$", found[0]):
         yield f".TP\n.B {name}\n{escaped(said)}\n"
 
 
@@ -65,7 +68,8 @@ def page(header: str, version: str) -> str:
     parts += ["\ncc program.c $(pkg\\-config \\-\\-cflags \\-\\-libs vupresal)\n.fi\n", ".SH DESCRIPTION\n", *paragraphs(first[1]), ".SH FUNCTIONS\n"]
     for group in functions:
         parts += [".SS " + ", ".join(name for name, _ in group.prototypes) + "\n", *paragraphs(group.said)]
-    parts += [".SH STATUSES\n", *statuses(header), ".SH SEE ALSO\n.BR rbacd (1),\n.BR policy (1)\n"]
+    parts += [".SH STATUSES\n", *numbers(header, "VUPRESAL_OK"), ".SH CAUSES\n", *numbers(header, "VUPRESAL_CAUSE_NONE"),
+              ".SH LIMITS\n", *numbers(header, "VUPRESAL_LIMIT_UNKNOWN"), ".SH SEE ALSO\n.BR rbacd (1),\n.BR policy (1)\n"]
     return "".join(parts)
 
 

@@ -1,5 +1,5 @@
 -- Any thread may have the core of a proxy.
-use denote.Param.Send.{IsSend, IsSync, sendable}
+use denote.Param.Send.{IsSend, sendable}
 use denote.Array.{Array}
 use denote.Struct.Field.{row_field}
 use denote.Param.Send.{array_send}
@@ -8,18 +8,14 @@ use Rattle.std.specs.contracts.option.Option as maybe
 use Rattle.std.proofs.Crossing as heap
 use Rattle.std.proofs.alloc.Global.TheSendSync as global
 use Rattle.std.proofs.string.String.TheSendSync as string
-use Rattle.std.proofs.sync.ArcStr.TheSendSync as arc_str
-use Rattle.std.specs.contracts.alloc.Global as allocator
-use Rattle.std.specs.contracts.impls.GlobalAllocator.TheImpl.{ghosts}
-use Rattle.std.specs.contracts.sync.ArcStr as text
 use Rattle.ads.specs.contracts.client.Client as client
 use Rattle.ads.specs.contracts.config.Config as config
-use Rattle.attributes.specs.contracts.conn.Conn as conn
 use Rattle.http_front.specs.contracts.front.Front as front
 use Rattle.proxy_core.specs.contracts.event.Output as output
 use Rattle.proxy_core.specs.contracts.proxy.Proxy as proxy
 use Rattle.xds_wire.specs.contracts.frames.Frames as frames
 use Rattle.c_slots.proofs.Crossing.{filter_send, limits_send}
+use Rattle.c_slots.proofs.KeptCrossing.{conn_send, conn_sync}
 use Rattle.c_slots.specs.contracts.proxy_slot.Core as core
 
 frames_send : IsSend frames.the_row
@@ -30,18 +26,6 @@ config_send = search (limits_send, string.the_field_send, heap.crosses, sendable
 
 client_send : IsSend client.the_row
 client_send = search (filter_send, config_send, frames_send, global.the_field_send, heap.crosses, sendable) depth 60 fits 20000
-
-text_send : IsSend (text.the_row allocator.the_row ghosts)
-text_send = search (arc_str.the_send, heap.crosses, sendable) depth 60 fits 20000
-
-text_sync : IsSync (text.the_row allocator.the_row ghosts)
-text_sync = search (arc_str.the_sync, heap.crosses, sendable) depth 60 fits 20000
-
-conn_send : IsSend (conn.the_row (text.the_row allocator.the_row ghosts))
-conn_send = search (text_send, heap.crosses, sendable) depth 60 fits 20000
-
-conn_sync : IsSync (conn.the_row (text.the_row allocator.the_row ghosts))
-conn_sync = search (text_sync, heap.crosses, sendable) depth 60 fits 20000
 
 front_send : IsSend front.the_row
 front_send = search (limits_send, conn_send, conn_sync, heap.crosses, sendable) depth 60 fits 20000

@@ -16,6 +16,7 @@ use Rattle.rbac_policy.specs.declared.filter.Verdict.{Verdict}
 use Rattle.stack_machine.specs.declared.error.RunError.{RunError}
 use Rattle.vupresal_c.specs.Admission.{IsAdmission, budget_given}
 use Rattle.vupresal_c.specs.Decisions.{Asking, FailsFor, IsAnswer, IsDecision, decision_of, decision_with, matched_in, refused}
+use Rattle.vupresal_c.specs.Kept.{RequestFailsFor}
 use Rattle.vupresal_c.specs.Statuses.{done, of_run, status_of}
 use Rattle.vupresal_c.specs.declared.decision.Decision.{Decision}
 use Rattle.vupresal_c.specs.declared.fault.Fault.{Fault}
@@ -37,7 +38,16 @@ pub run_fails : (Has : LimitsValue → HeadFault → Type 0) (IsOpen IsOut : Typ
 run_fails Has IsOpen IsOut facts a r answer RunError.Memory is within never = refl
 run_fails Has IsOpen IsOut facts a r answer RunError.OutOfSteps is within never = λ filter admitted. never filter admitted within is
 
-allowed_of : (allowed : Bool) (matched : Option ℕ) → (decision_with allowed matched).is_allowed ≡ allowed
+-- the same on a request that was made before
+pub made_run_fails : (a : Admitted) (r : RequestValue) (answer : Result Verdict RunError) (e : RunError)
+    → answer ≡ Err e → InLimits r (limits_view a)
+    → ((filter : Filter CelChecked) → IsAdmittedAs (limits_view a) filter (filter_view a)
+    → InLimits r (limits_view a) → answer ≢ Err RunError.OutOfSteps)
+    → RequestFailsFor a r (of_run e)
+made_run_fails a r answer RunError.Memory is within never = refl
+made_run_fails a r answer RunError.OutOfSteps is within never = λ filter admitted. never filter admitted within is
+
+pub allowed_of : (allowed : Bool) (matched : Option ℕ) → (decision_with allowed matched).is_allowed ≡ allowed
 allowed_of allowed (Some k) = refl
 allowed_of allowed None = refl
 
@@ -46,7 +56,7 @@ matched_of allowed (Some k) = refl
 matched_of allowed None = refl
 
 -- the decision of an answer
-decision_is : (Asks : Asking) (a : Admitted) (v : Verdict) → IsAnswer Asks a v → IsDecision Asks a (decision_of v)
+pub decision_is : (Asks : Asking) (a : Admitted) (v : Verdict) → IsAnswer Asks a v → IsDecision Asks a (decision_of v)
 decision_is Asks a v found =
     (found.0, found.1, rw (allowed_of v.allowed v.matched, matched_of v.allowed v.matched) found.2)
 

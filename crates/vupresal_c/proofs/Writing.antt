@@ -1,5 +1,5 @@
 -- A text and a zero, written into a room.
-use Rattle.std.proofs.Common.{◌≡◌, ◌∙◌, ◌+◌, ◌-◌, ◌<◌, ◌≤◌, ℕ, suc, List, [], ◌∷◌, ◌++◌, ap, ap₂, arith, drop, length, length-append, slice_set, sym, take}
+use Rattle.std.proofs.Common.{◌≡◌, ◌∙◌, ◌+◌, ◌-◌, ◌<◌, ◌≤◌, ℕ, suc, List, ◌∷◌, ◌++◌, ap, ap₂, arith, drop, length, length-append, slice_set, sym, take}
 use Rattle.std.proofs.lemmas.List.{drop-drop, drop_at, length-drop, length-take-le, set_split, take_at}
 
 -- a zero after the text, where the rest of the room begins

@@ -115,7 +115,7 @@ PartsFailFor request given = FailsFor (GivenFault (parts_given request) (facts_g
 abbrev pub AreTooLongFor : PartsValue → Option Admitted → Type 0
 AreTooLongFor parts held = IsSomeAnd held (λ a. IsTrue (are_too_long (limits_view a) parts))
 
--- there is no decision: the handle is empty, or its filter has none
-abbrev pub Fails : Option Admitted → (Admitted → Fault → Type 0) → Fault → Type 0
+-- there is no answer, with this fault: the handle is empty, or what it holds gives none
+abbrev pub Fails : {A : Type 0} → Option A → (A → Fault → Type 0) → Fault → Type 0
 Fails None For e = e ≡ Empty
 Fails (Some a) For e = For a e

@@ -2,6 +2,10 @@ pub mod Statuses
 pub mod Handles
 pub mod Admission
 pub mod Decisions
+pub mod Making
+pub mod Causes
+pub mod Kept
+pub mod Sets
 pub mod Queries
 pub mod Copies
 pub mod Settings

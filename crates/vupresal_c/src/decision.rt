@@ -20,8 +20,8 @@ pub struct Decision {
 }
 
 impl Decision {
-    // The decision that refuses, and names no policy.
-    fn refused() -> Decision
+    /// The decision that refuses, and names no policy.
+    pub(crate) fn refused() -> Decision
         ensures { result ≡ refused }
     {
         Decision {
@@ -31,8 +31,8 @@ impl Decision {
         }
     }
 
-    // The decision of a verdict.
-    fn of(verdict: Verdict) -> Decision
+    /// The decision of a verdict.
+    pub(crate) fn of(verdict: Verdict) -> Decision
         ensures { result ≡ decision_of verdict }
     {
         let (matched, is_matched) = match verdict.matched {

@@ -10,7 +10,7 @@ import unittest
 import warnings
 from typing import Callable, List, Tuple, Union
 
-from vupresal import Bounds, Decision, EachThread, Error, Facts, Filter, Refused, is_proved
+from vupresal import Bounds, Connection, Decision, EachThread, Error, Facts, Filter, FilterSet, Refused, SetDecision, is_proved
 
 EXAMPLES = pathlib.Path(os.environ.get("VUPRESAL_EXAMPLES") or pathlib.Path(__file__).resolve().parent.parent.parent)
 Text = Union[str, bytes]
@@ -238,6 +238,43 @@ class Filters(unittest.TestCase):
         with other.share() as third:
             other.close()
             self.assertFalse(third.decide("GET", "/admin", HOST).allowed)
+
+    def test_requests_that_are_made_once(self) -> None:
+        connection = Connection(Facts(remote_ip="10.0.0.1"))
+        filters = [Filter(example(name)) for name in ("any_any.bin", "condition.bin", "deny_any.bin")]
+        for target, wanted in (("/", [True, True, False]), ("/admin", [True, False, False])):
+            for made in (connection.request("GET", target, HOST), connection.head(f"GET {target} HTTP/1.1\r\nHost: h\r\n\r\n".encode())):
+                self.assertEqual([one.decide_request(made).allowed for one in filters], wanted)
+        connection.close()
+        self.assertTrue(filters[0].decide_request(made).allowed)
+        made.close()
+        for wrong, status in ((lambda: filters[0].decide_request(made), -1), (lambda: connection.request("GET", "/", HOST), -1),
+                              (lambda: Connection().request("GET", "x", HOST), 400), (lambda: Connection().head(b"GET"), 400),
+                              (lambda: Connection().request("GET", "/" + "a" * 4096, HOST), 431), (lambda: Connection(Facts(tls_version="\udcff")), 400)):
+            with self.assertRaises(Error) as raised:
+                wrong()
+            self.assertEqual(raised.exception.status, status)
+
+    def test_made_requests_keep_ignored_fields(self) -> None:
+        lines = [*HOST, ("cookie", "c" * 5000)]
+        with Filter(example("any_any.bin"), ignore=["cookie"]) as one:
+            self.assertTrue(one.decide("GET", "/", lines).allowed)
+        with self.assertRaises(Error) as raised:
+            Connection().request("GET", "/", lines)
+        self.assertEqual(raised.exception.status, 431)
+
+    def test_sets(self) -> None:
+        filters = [Filter(example(name)) for name in ("any_any.bin", "condition.bin")]
+        one, connection = FilterSet(filters), Connection()
+        for each in filters:
+            each.close()
+        self.assertEqual(one.decide(connection.request("GET", "/", HOST)), SetDecision(True, 1, "readers"))
+        self.assertEqual(one.decide(connection.request("GET", "/admin", HOST)), SetDecision(False, 1, None))
+        with self.assertRaises(Error) as raised:
+            FilterSet([]).decide(connection.request("GET", "/", HOST))
+        self.assertEqual(raised.exception.status, -1)
+        with self.assertRaises(Error):
+            FilterSet(filters)
 
     def test_threads(self) -> None:
         one = Filter(example("condition.bin"))

@@ -62,6 +62,17 @@ PLACE(vupresal_decision, is_allowed, 9);
 
 SIZE(vupresal_filter, 16);
 SIZE(vupresal_proxy, 16);
+SIZE(vupresal_connection, 16);
+SIZE(vupresal_made_request, 16);
+SIZE(vupresal_set, 16);
+
+SIZE(vupresal_set_decision, 24);
+PLACE(vupresal_set_decision, decision, 0);
+PLACE(vupresal_set_decision, filter, 16);
+
+SIZE(vupresal_cause, 8);
+PLACE(vupresal_cause, reason, 0);
+PLACE(vupresal_cause, limit, 4);
 
 SIZE(vupresal_resource, 24);
 PLACE(vupresal_resource, name, 0);

@@ -97,10 +97,43 @@ struct answer {
   vupresal_decision decision;
 };
 
-/* Judges a head, and its parts. */
+/* Whether the decision is another one. */
+static bool is_other(const vupresal_decision *one, const vupresal_decision *other) {
+  return one->matched != other->matched || one->is_matched != other->is_matched || one->is_allowed != other->is_allowed;
+}
+
+/* Whether a request that is made of the head, or of these parts, gets another answer: from the filter, or from a set of it twice. */
+static bool differs_if_made(vupresal_filter *filter, const vupresal_facts *facts, vupresal_bytes head, const vupresal_request *parts,
+                            const struct answer *answer) {
+  vupresal_connection connection = {0};
+  vupresal_made_request made = {0};
+  vupresal_set set = {0};
+  vupresal_decision decision = stale();
+  vupresal_set_decision of_set = {stale(), 7};
+  int32_t status = vupresal_connection_new(&connection, facts);
+  if (status == VUPRESAL_OK)
+    status = parts ? vupresal_request_of_parts(&made, &connection, parts)
+                   : vupresal_request_of_head(&made, &connection, head.at, head.length);
+  if (status == VUPRESAL_OK) status = vupresal_filter_decide_request(filter, &made, &decision);
+  bool differs = status != answer->status;
+  if (status == VUPRESAL_OK) {
+    CHECK_STATUS(vupresal_set_add(&set, filter), VUPRESAL_OK);
+    CHECK_STATUS(vupresal_set_add(&set, filter), VUPRESAL_OK);
+    CHECK_STATUS(vupresal_set_decide(&set, &made, &of_set), VUPRESAL_OK);
+    differs |= is_other(&decision, &answer->decision) || is_other(&of_set.decision, &decision) ||
+               of_set.filter != (decision.is_allowed ? 1u : 0u);
+  }
+  vupresal_set_free(&set);
+  vupresal_request_free(&made);
+  vupresal_connection_free(&connection);
+  return differs;
+}
+
+/* Judges a head, and its parts; each also as a request that is made once. */
 static struct answer answer_of(vupresal_filter *filter, const vupresal_facts *facts, vupresal_bytes head) {
   struct answer answer = {0, false, stale()};
   answer.status = vupresal_filter_decide_head(filter, head.at, head.length, facts, &answer.decision);
+  answer.differs = vupresal_filter_policies(filter) && differs_if_made(filter, facts, head, NULL, &answer);
   if (answer.status != VUPRESAL_OK) {
     check_refuses(answer.decision);
     return answer;
@@ -110,8 +143,7 @@ static struct answer answer_of(vupresal_filter *filter, const vupresal_facts *fa
   vupresal_request request = parts_of(head.at, head.length, lines);
   vupresal_decision other = stale();
   int32_t status = vupresal_filter_decide(filter, &request, facts, &other);
-  answer.differs = status != VUPRESAL_OK || other.matched != answer.decision.matched ||
-                   other.is_matched != answer.decision.is_matched || other.is_allowed != answer.decision.is_allowed;
+  answer.differs |= status != VUPRESAL_OK || is_other(&other, &answer.decision) || differs_if_made(filter, facts, head, &request, &answer);
   free(lines);
   return answer;
 }

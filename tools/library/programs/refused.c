@@ -75,6 +75,29 @@ static int32_t share(vupresal_filter *filter) {
   return status;
 }
 
+/* A connection, a request and a set of the filter twice; what cannot be made is empty. */
+static int32_t by_set(vupresal_filter *filter) {
+  vupresal_facts facts = bare;
+  facts.tls_version = facts.requested_server_name = vupresal_text_of("TLSv1.3", 7);
+  vupresal_connection connection = {0};
+  vupresal_made_request made = {0};
+  vupresal_set set = {0};
+  vupresal_decision decision = stale();
+  vupresal_set_decision of_set = {stale(), 7};
+  int32_t status = vupresal_connection_new(&connection, &facts);
+  if (status == VUPRESAL_OK) status = vupresal_request_of_head(&made, &connection, plain, PLAIN_LENGTH);
+  if (status == VUPRESAL_OK) status = vupresal_filter_decide_request(filter, &made, &decision);
+  else CHECK_STATUS(vupresal_filter_decide_request(filter, &made, &decision), VUPRESAL_EMPTY);
+  CHECK(decision.is_allowed == (status == VUPRESAL_OK));
+  for (int twice = 0; twice < 2 && status == VUPRESAL_OK; twice++) status = vupresal_set_add(&set, filter);
+  if (status == VUPRESAL_OK) status = vupresal_set_decide(&set, &made, &of_set);
+  CHECK(status != VUPRESAL_OK || (of_set.decision.is_allowed && of_set.filter == 1));
+  vupresal_set_free(&set);
+  vupresal_request_free(&made);
+  vupresal_connection_free(&connection);
+  return status;
+}
+
 /* Refuses each growth of the call; the filter stays. */
 static void try_filter(const char *name, int32_t call(vupresal_filter *), size_t fewest) {
   vupresal_filter filter = {0};
@@ -170,6 +193,7 @@ int main(int count, char **words) {
   try_filter("refused", refuse_place, 5);
   try_filter("decide_head", by_head, 5);
   try_filter("decide", by_parts, 5);
+  try_filter("made once", by_set, 8);
   try_filter("queries", ask, 0);
   CHECK_STATUS(vupresal_filter_admit(&other, open_to_all, sizeof open_to_all, &greatest, 1, NULL, 0), VUPRESAL_OK);
   try_filter("share", share, 1);

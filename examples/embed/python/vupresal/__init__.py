@@ -8,6 +8,12 @@
 
 Any thread may ask a Filter; a lock lets one call at a time pass. `share` gives another Filter of the same message, and `EachThread` one
 to each thread, so that none waits.
+
+What is asked more than once is made once: a Connection checks its facts, and makes each Request for any filters. A FilterSet asks its
+filters in order.
+
+    request = Connection(Facts(remote_ip="10.0.0.1")).request("GET", "/about", [("host", "shop.example")])
+    decisions = [filter.decide_request(request) for filter in filters]
 """
 
 from __future__ import annotations
@@ -23,7 +29,7 @@ from typing import Dict, Iterable, NamedTuple, Optional, Tuple, Union
 
 from . import _ignored, _library
 
-__all__ = ["Bounds", "Decision", "EachThread", "Error", "Facts", "Filter", "Refused", "is_proved"]
+__all__ = ["Bounds", "Connection", "Decision", "EachThread", "Error", "Facts", "Filter", "FilterSet", "Refused", "Request", "SetDecision", "is_proved"]
 
 Address = Union[str, ipaddress.IPv4Address, ipaddress.IPv6Address]
 Text = Union[str, bytes]
@@ -38,7 +44,7 @@ _MEANINGS = {
     11: "a condition's type map names another type than the one found", 12: "a condition's reference map names something else",
     13: "the type of a condition is not bool", 14: "an empty list or map in a condition has no type",
     15: "the conditions may take more steps than the budget has", 19: "memory ran out", 20: "a condition took more steps than its bound",
-    -1: "the filter is closed", -2: "limits, a budget, a port, an address or a protocol are out of their ranges", 400: "the request or a text of its facts is malformed",
+    -1: "it is closed, or nothing was made", -2: "limits, a budget, a port, an address or a protocol are out of their ranges", 400: "the request or a text of its facts is malformed",
     431: "the request is outside the limits", 501: "the request has a Transfer-Encoding field",
 }
 
@@ -235,6 +241,12 @@ class Filter:
         with self._lock:
             return self._decision(_DECIDE_HEAD(self._at, head, len(head), at, self._output_at))
 
+    def decide_request(self, request: Request) -> Decision:
+        """The decision on a request that was made before: as on its parts, or on its head. No field of it is ignored. Raises Error without
+        a decision."""
+        with self._lock, request._lock:
+            return self._decision(_LIBRARY.vupresal_filter_decide_request(self._at, request._at, self._output_at))
+
     def _decision(self, status: int) -> Decision:
         """What a call gave, which the lock still keeps."""
         if status:
@@ -292,3 +304,94 @@ class EachThread:
         if not hasattr(self._own, "filter"):
             self._own.filter = self._first.share()
         return self._own.filter
+
+
+class _Once:
+    """What is made once: a handle of the library, which is freed with it."""
+
+    _free: str
+
+    def __init__(self) -> None:
+        self._lock, self._handle = threading.Lock(), _library.Handle()
+        self._at = ctypes.addressof(self._handle)
+
+    def close(self) -> None:
+        """Frees it. It may be closed again."""
+        with self._lock:
+            getattr(_LIBRARY, self._free)(ctypes.byref(self._handle))
+
+    def __del__(self) -> None:
+        if hasattr(self, "_handle"):
+            self.close()
+
+
+class Request(_Once):
+    """A request that was made once, for any filters. A Connection makes it."""
+
+    _free = "vupresal_request_free"
+
+
+class Connection(_Once):
+    """The facts of a connection, which are checked once for all its requests."""
+
+    _free = "vupresal_connection_free"
+
+    def __init__(self, facts: Facts = _NO_FACTS) -> None:
+        """Raises Error for facts that are none."""
+        super().__init__()
+        self._room = _library.Room()
+        status = _LIBRARY.vupresal_connection_new(ctypes.byref(self._handle), facts._address)
+        if status:
+            raise Error(status)
+
+    def request(self, method: Text, target: Text, lines: Lines, is_http11: bool = True, protocol: Optional[str] = None) -> Request:
+        """A request by its parts, as Filter.decide takes them; it keeps ignored fields. Raises Error if there is none."""
+        http11, number = (bool(is_http11), 0) if protocol is None else _protocol_of(protocol)
+        made = Request()
+        with self._lock:
+            at = self._room.put(method, target, lines, http11, number)
+            status = _LIBRARY.vupresal_request_of_parts(ctypes.byref(made._handle), ctypes.byref(self._handle), at)
+        if status:
+            raise Error(status)
+        return made
+
+    def head(self, head: bytes) -> Request:
+        """A request by its whole head of HTTP/1; it keeps ignored fields. Raises Error if there is none."""
+        made = Request()
+        with self._lock:
+            status = _LIBRARY.vupresal_request_of_head(ctypes.byref(made._handle), ctypes.byref(self._handle), head, len(head))
+        if status:
+            raise Error(status)
+        return made
+
+
+class SetDecision(NamedTuple):
+    """What a set decides: whether the request may pass, which filter says so, from 0, and the name of its policy that matches."""
+
+    allowed: bool
+    filter: int
+    policy: Optional[str]
+
+
+class FilterSet(_Once):
+    """Filters in order. The first that refuses a request decides; if none refuses, the last does."""
+
+    _free = "vupresal_set_free"
+
+    def __init__(self, filters: Iterable[Filter]) -> None:
+        """The set shares the filters, which may be closed. Raises Error for one that is closed."""
+        super().__init__()
+        self._output, self._filters = _library.SetDecisionOutput(), [one.share() for one in filters]
+        for one in self._filters:
+            status = _LIBRARY.vupresal_set_add(ctypes.byref(self._handle), ctypes.byref(one._handle))
+            if status:
+                raise Error(status)
+
+    def decide(self, request: Request) -> SetDecision:
+        """The decision on a request that was made before. Raises Error without a decision."""
+        with self._lock, request._lock:
+            status = _LIBRARY.vupresal_set_decide(self._at, request._at, ctypes.addressof(self._output))
+            if status:
+                raise Error(status)
+            is_by, of_it = self._output.filter, self._output.decision
+            return SetDecision(of_it.is_allowed, is_by, self._filters[is_by]._name(of_it.matched) if of_it.is_matched else None)

@@ -58,6 +58,10 @@ class Handle(Structure):
     _fields_ = [("at", c_void_p), ("held", c_bool)]
 
 
+class SetDecisionOutput(Structure):
+    _fields_ = [("decision", DecisionOutput), ("filter", c_uint64)]
+
+
 class Build(Structure):
     _fields_ = [("number", c_uint64),
                 *((name, c_size_t) for name in ("filter", "proxy", "bounds", "facts", "line", "request", "decision", "resource", "settings",
@@ -80,6 +84,15 @@ def load() -> ctypes.CDLL:
         "filter_policy_name": (c_size_t, [POINTER(Handle), c_uint64, c_char_p, c_size_t]),
         "filter_share_distinct": (c_int32, [POINTER(Handle), POINTER(Handle)]),
         "filter_free": (None, [POINTER(Handle)]),
+        "connection_new": (c_int32, [POINTER(Handle), c_void_p]),
+        "connection_free": (None, [POINTER(Handle)]),
+        "request_of_parts": (c_int32, [POINTER(Handle), POINTER(Handle), c_void_p]),
+        "request_of_head": (c_int32, [POINTER(Handle), POINTER(Handle), c_char_p, c_size_t]),
+        "request_free": (None, [POINTER(Handle)]),
+        "filter_decide_request": (c_int32, [c_void_p, c_void_p, c_void_p]),
+        "set_add": (c_int32, [POINTER(Handle), POINTER(Handle)]),
+        "set_decide": (c_int32, [c_void_p, c_void_p, c_void_p]),
+        "set_free": (None, [POINTER(Handle)]),
     }
     for name, (result, arguments) in functions.items():
         function = getattr(library, f"vupresal_{name}")

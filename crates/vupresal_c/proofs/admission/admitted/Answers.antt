@@ -1,4 +1,4 @@
-use Rattle.std.proofs.Common.{sym, arith}
+use Rattle.std.proofs.Common.{sym}
 use Rattle.vupresal_c.proofs.Deciding.{is_admission}
 use Rattle.vupresal_c.proofs.admission.admitted.Goals as goal
 

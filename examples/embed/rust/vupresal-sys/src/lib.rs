@@ -106,6 +106,55 @@ impl vupresal_filter {
     }
 }
 
+/// A connection's handle: empty if all its bytes are 0. It may be moved.
+#[repr(C)]
+pub struct vupresal_connection {
+    at: *mut c_void,
+    held: bool,
+}
+
+/// A request's handle: empty if all its bytes are 0. It may be moved.
+#[repr(C)]
+pub struct vupresal_made_request {
+    at: *mut c_void,
+    held: bool,
+}
+
+/// The handle of a set of filters: empty if all its bytes are 0. It may be moved.
+#[repr(C)]
+pub struct vupresal_set {
+    at: *mut c_void,
+    held: bool,
+}
+
+impl vupresal_connection {
+    /// An empty handle.
+    pub const fn empty() -> Self {
+        Self { at: core::ptr::null_mut(), held: false }
+    }
+}
+
+impl vupresal_made_request {
+    /// An empty handle.
+    pub const fn empty() -> Self {
+        Self { at: core::ptr::null_mut(), held: false }
+    }
+}
+
+impl vupresal_set {
+    /// An empty handle.
+    pub const fn empty() -> Self {
+        Self { at: core::ptr::null_mut(), held: false }
+    }
+}
+
+#[repr(C)]
+#[derive(Clone, Copy, Default)]
+pub struct vupresal_set_decision {
+    pub decision: vupresal_decision,
+    pub filter: u64,
+}
+
 #[repr(C)]
 #[derive(Clone, Copy, Default)]
 pub struct vupresal_build {
@@ -153,5 +202,27 @@ extern "C" {
     /// For two handles, not for one.
     pub fn vupresal_filter_share_distinct(from: *mut vupresal_filter, to: *mut vupresal_filter) -> i32;
     pub fn vupresal_filter_free(filter: *mut vupresal_filter);
+    pub fn vupresal_connection_new(connection: *mut vupresal_connection, facts: *const vupresal_facts) -> i32;
+    pub fn vupresal_connection_free(connection: *mut vupresal_connection);
+    pub fn vupresal_request_of_parts(
+        made: *mut vupresal_made_request,
+        connection: *mut vupresal_connection,
+        request: *const vupresal_request,
+    ) -> i32;
+    pub fn vupresal_request_of_head(
+        made: *mut vupresal_made_request,
+        connection: *mut vupresal_connection,
+        head: *const u8,
+        length: usize,
+    ) -> i32;
+    pub fn vupresal_request_free(made: *mut vupresal_made_request);
+    pub fn vupresal_filter_decide_request(
+        filter: *mut vupresal_filter,
+        made: *mut vupresal_made_request,
+        decision: *mut vupresal_decision,
+    ) -> i32;
+    pub fn vupresal_set_add(set: *mut vupresal_set, filter: *mut vupresal_filter) -> i32;
+    pub fn vupresal_set_decide(set: *mut vupresal_set, made: *mut vupresal_made_request, decision: *mut vupresal_set_decision) -> i32;
+    pub fn vupresal_set_free(set: *mut vupresal_set);
     pub fn vupresal_version(build: *mut vupresal_build);
 }

@@ -11,13 +11,18 @@
 //! ```
 //!
 //! A [`Filter`] may pass to another thread, and one call at a time has it, as `&mut` says. [`Filter::share`] gives one to each thread.
+//!
+//! What is asked more than once is made once: a [`Connection`] checks its facts and makes each [`MadeRequest`], for any filters. A
+//! [`FilterSet`] asks its filters in order.
 #![deny(missing_docs)]
 
 mod facts;
 mod ignored;
+mod once;
 mod status;
 
 pub use facts::Facts;
+pub use once::{Connection, FilterSet, MadeRequest, SetDecision};
 pub use status::{Error, Refusal};
 
 use ignored::Ignored;
@@ -207,26 +212,7 @@ impl Filter {
     /// Why there is no decision. The request is to be refused.
     pub fn decide<N: AsRef<[u8]>, V: AsRef<[u8]>>(&mut self, request: &Request<'_, N, V>, facts: &Facts) -> Result<Decision, Error> {
         let ignored = &self.ignored;
-        self.lines.clear();
-        self.lines.extend(
-            request
-                .lines
-                .iter()
-                .filter(|(name, _)| !ignored.has(name.as_ref()))
-                .map(|(name, value)| sys::vupresal_line { name: bytes_of(name.as_ref()), value: bytes_of(value.as_ref()) }),
-        );
-        let input = sys::vupresal_request {
-            method: bytes_of(request.method.as_bytes()),
-            target: bytes_of(request.target.as_bytes()),
-            lines: if self.lines.is_empty() { ptr::null() } else { self.lines.as_ptr() },
-            line_count: self.lines.len(),
-            is_http11: request.protocol != Protocol::Http10,
-            protocol: match request.protocol {
-                Protocol::Http10 | Protocol::Http11 => 0,
-                Protocol::Http2 => 2,
-                Protocol::Http3 => 3,
-            },
-        };
+        let input = input_of(request, |name| !ignored.has(name), &mut self.lines);
         let mut decision = sys::vupresal_decision::default();
         // SAFETY: each pointer is valid for its length until the call returns, and none is kept.
         let status = facts.with(|facts| unsafe { sys::vupresal_filter_decide(&mut self.handle, &input, facts, &mut decision) });
@@ -252,6 +238,18 @@ impl Filter {
     /// and find none. A name that a condition puts together, or meets in a loop over all headers, is not found.
     pub fn may_read_ignored(&self) -> &[String] {
         self.ignored.suspects()
+    }
+
+    /// The decision on a request that was made once: as on its parts, or on its head. No field of it is ignored.
+    ///
+    /// # Errors
+    ///
+    /// Why there is no decision. The request is to be refused.
+    pub fn decide_request(&mut self, request: &mut MadeRequest) -> Result<Decision, Error> {
+        let mut decision = sys::vupresal_decision::default();
+        // SAFETY: both handles are such.
+        let status = unsafe { sys::vupresal_filter_decide_request(&mut self.handle, &mut request.handle, &mut decision) };
+        decided(status, decision)
     }
 
     /// The number of policies.
@@ -284,6 +282,34 @@ impl Drop for Filter {
     fn drop(&mut self) {
         // SAFETY: the handle is one; an empty one may be freed too.
         unsafe { sys::vupresal_filter_free(&mut self.handle) };
+    }
+}
+
+/// A request as C has it. Those of its lines whose names are kept are in this room until it is cleared.
+fn input_of<N: AsRef<[u8]>, V: AsRef<[u8]>>(
+    request: &Request<'_, N, V>,
+    is_kept: impl Fn(&[u8]) -> bool,
+    room: &mut Vec<sys::vupresal_line>,
+) -> sys::vupresal_request {
+    room.clear();
+    room.extend(
+        request
+            .lines
+            .iter()
+            .filter(|(name, _)| is_kept(name.as_ref()))
+            .map(|(name, value)| sys::vupresal_line { name: bytes_of(name.as_ref()), value: bytes_of(value.as_ref()) }),
+    );
+    sys::vupresal_request {
+        method: bytes_of(request.method.as_bytes()),
+        target: bytes_of(request.target.as_bytes()),
+        lines: if room.is_empty() { ptr::null() } else { room.as_ptr() },
+        line_count: room.len(),
+        is_http11: request.protocol != Protocol::Http10,
+        protocol: match request.protocol {
+            Protocol::Http10 | Protocol::Http11 => 0,
+            Protocol::Http2 => 2,
+            Protocol::Http3 => 3,
+        },
     }
 }
 

@@ -2,7 +2,7 @@
 use std::net::{IpAddr, SocketAddr};
 use std::path::PathBuf;
 use std::thread;
-use vupresal::{Bounds, Decision, Error, Facts, Filter, Options, Protocol, Request};
+use vupresal::{Bounds, Connection, Decision, Error, Facts, Filter, FilterSet, Options, Protocol, Request, SetDecision};
 
 const HOST: [(&str, &str); 1] = [("Host", "h")];
 
@@ -243,4 +243,50 @@ fn names_by_number() {
     let mut filter = filter_of("condition.bin");
     assert_eq!((filter.policies(), filter.policy_name(0).as_deref(), filter.policy_name(1)), (1, Some("readers"), None));
     let _ = vupresal::is_proved();
+}
+
+#[test]
+fn requests_that_are_made_once() {
+    let mut connection = Connection::new(&Facts::default()).expect("a connection");
+    let mut filters: Vec<Filter> = ["any_any.bin", "condition.bin", "deny_any.bin"].iter().map(|name| filter_of(name)).collect();
+    for (target, wanted) in [("/", [true, true, false]), ("/admin", [true, false, false])] {
+        let head = format!("GET {} HTTP/1.1\r\nHost: h\r\n\r\n", target);
+        let of_parts = connection.request(&Request::get(target, &HOST)).expect("a request");
+        let of_head = connection.head(head.as_bytes()).expect("a request");
+        for mut made in [of_parts, of_head] {
+            for (filter, wanted) in filters.iter_mut().zip(wanted) {
+                assert_eq!(filter.decide_request(&mut made).expect("a decision").allowed, wanted);
+            }
+        }
+    }
+    assert_eq!(connection.request(&Request::get("x", &HOST)).err(), Some(Error::BadRequest));
+    assert_eq!(connection.head(b"GET / HTTP/1.1\r\n").err(), Some(Error::BadRequest));
+    assert_eq!(connection.request(&Request::get(&"/".repeat(5000), &HOST)).err(), Some(Error::OutsideLimits));
+}
+
+#[test]
+fn made_requests_keep_ignored_fields() {
+    let long = "c".repeat(5000);
+    let lines = [HOST[0], ("cookie", long.as_str())];
+    let request = Request::get("/", &lines);
+    assert!(ignoring(&example("any_any.bin"), &["cookie"]).decide(&request, &Facts::default()).expect("a decision").allowed);
+    let mut connection = Connection::new(&Facts::default()).expect("a connection");
+    assert_eq!(connection.request(&request).err(), Some(Error::OutsideLimits));
+}
+
+#[test]
+fn sets() {
+    let mut connection = Connection::new(&Facts::default()).expect("a connection");
+    let mut set = FilterSet::new();
+    let mut made = connection.request(&Request::get("/admin", &HOST)).expect("a request");
+    drop(connection);
+    assert_eq!(set.decide(&mut made), Err(Error::Other(-1)));
+    for (name, wanted) in [
+        ("any_any.bin", SetDecision { decision: Decision { allowed: true, policy: Some(0) }, filter: 0 }),
+        ("condition.bin", SetDecision { decision: Decision { allowed: false, policy: None }, filter: 1 }),
+        ("any_any.bin", SetDecision { decision: Decision { allowed: false, policy: None }, filter: 1 }),
+    ] {
+        set.add(&mut filter_of(name)).expect("memory");
+        assert_eq!(set.decide(&mut made), Ok(wanted));
+    }
 }
